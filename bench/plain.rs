@@ -3,9 +3,11 @@
 // plain run < SCRIPT: the run text of a script of one thread that ends in `finish`, as `atomfs run` writes it.
 // plain check < JOURNAL: reads a journal, replays the commits and compares the replies: `lawful`, or `fault` and a
 // place.
+// plain linearize < HISTORY: the search of Wing and Gong with Lowe's memory of what was seen, for an order of the calls
+// of a history: `lawful`, or `none`.
 // plain threads < SCRIPT: each thread's calls on a thread of its own; one mutex, taken at each event: how many calls,
 // and in how many microseconds.
-use std::collections::HashMap;
+use std::collections::{HashMap, HashSet};
 use std::hint::black_box;
 use std::io::{Read, Write};
 use std::sync::Mutex;
@@ -525,6 +527,188 @@ fn check(input: &[u8]) -> Vec<u8> {
     b"lawful\n".to_vec()
 }
 
+/// How a change of the tree is taken back.
+enum Undo {
+    Nothing,
+    Remove(Vec<u8>),
+    Add(Vec<u8>, Node),
+    Back(Vec<u8>, Vec<u8>, Option<Node>),
+    Exchange(Vec<u8>, Vec<u8>),
+    Bytes(Vec<u8>, Vec<u8>),
+}
+
+fn mixed(key: u64, number: u64) -> u64 {
+    let product = (key ^ number).wrapping_mul(0x9E37_79B9_7F4A_7C15);
+    product ^ (product >> 29)
+}
+
+fn mixed_bytes(key: u64, bytes: &[u8]) -> u64 {
+    bytes.iter().fold(mixed(key, bytes.len() as u64), |key, byte| mixed(key, u64::from(*byte)))
+}
+
+impl Tree {
+    /// The node at a path, copied; a directory is copied without what is in it.
+    fn copied(&self, path: &[u8]) -> Option<Node> {
+        Some(match &self.nodes[self.find(path).ok()?] {
+            Node::Dir(_) => Node::Dir(HashMap::new()),
+            Node::File(bytes) => Node::File(bytes.clone()),
+        })
+    }
+
+    /// A number of the tree: the sum of one for each entry, by its path and what is there.
+    fn key(&self, node: usize, above: u64) -> u64 {
+        match &self.nodes[node] {
+            Node::File(bytes) => mixed_bytes(mixed(above, 1), bytes),
+            Node::Dir(entries) => entries.iter().fold(mixed(above, 2), |sum, (name, below)| {
+                sum.wrapping_add(self.key(*below, mixed_bytes(above, name)))
+            }),
+        }
+    }
+
+    /// Applies a call, and says how to take it back.
+    fn apply_to_undo(&mut self, call: &Call) -> (Reply, Undo) {
+        let before = match call {
+            Call::Unlink(path) | Call::Rmdir(path) | Call::Write(path, ..) | Call::Truncate(path, _) => {
+                self.copied(path)
+            }
+            Call::Rename(_, to) => self.copied(to),
+            _ => None,
+        };
+        let reply = self.apply(call);
+        let undo = match (call, before) {
+            _ if matches!(reply, Reply::Failed(_)) => Undo::Nothing,
+            (Call::Mkdir(path) | Call::Mknod(path), _) => Undo::Remove(path.clone()),
+            (Call::Unlink(path) | Call::Rmdir(path), Some(node)) => Undo::Add(path.clone(), node),
+            (Call::Rename(from, to), before) if from != to => Undo::Back(from.clone(), to.clone(), before),
+            (Call::Exchange(path, other), _) => Undo::Exchange(path.clone(), other.clone()),
+            (Call::Write(path, ..) | Call::Truncate(path, _), Some(Node::File(old))) => Undo::Bytes(path.clone(), old),
+            _ => Undo::Nothing,
+        };
+        (reply, undo)
+    }
+
+    fn take_back(&mut self, undo: Undo) {
+        match undo {
+            Undo::Nothing => {}
+            Undo::Remove(path) => {
+                let (above, name) = parts(&path);
+                let dir = self.find(above).unwrap();
+                self.remove(dir, name).ok();
+            }
+            Undo::Add(path, node) => {
+                self.add(&path, node).ok();
+            }
+            Undo::Back(from, to, victim) => {
+                self.rename(&to, &from).ok();
+                if let Some(node) = victim {
+                    self.add(&to, node).ok();
+                }
+            }
+            Undo::Exchange(path, other) => {
+                self.exchange(&path, &other).ok();
+            }
+            Undo::Bytes(path, old) => *self.file(&path).unwrap() = old,
+        }
+    }
+}
+
+/// The events of a history in a list of which some are taken out: the begin of each call, and its return.
+struct Events {
+    next: Vec<usize>,
+    before: Vec<usize>,
+}
+
+impl Events {
+    fn take_out(&mut self, event: usize) {
+        let (before, next) = (self.before[event], self.next[event]);
+        self.next[before] = next;
+        self.before[next] = before;
+    }
+
+    fn put_in(&mut self, event: usize) {
+        let (before, next) = (self.before[event], self.next[event]);
+        self.next[before] = event;
+        self.before[next] = event;
+    }
+}
+
+/// A call of a history: it, its reply if it returned, and the places of its begin and its return among the events.
+struct Heard {
+    call: Call,
+    reply: Option<Reply>,
+    begin: usize,
+    end: usize,
+}
+
+/// The calls of a history, and its events in order: the call of each, and whether it returns. The first event is none.
+fn history_of(input: &[u8]) -> (Vec<Heard>, Vec<(usize, bool)>) {
+    let (mut calls, mut events, mut places) = (Vec::<Heard>::new(), vec![(0, false)], HashMap::new());
+    for line in input.split(|b| *b == b'\n').skip(1).filter(|line| !line.is_empty()) {
+        match entry_of(line) {
+            Entry::Begin(number, _, call) => {
+                places.insert(number, calls.len());
+                calls.push(Heard { call, reply: None, begin: events.len(), end: 0 });
+                events.push((calls.len() - 1, false));
+            }
+            Entry::Return(number, reply) => {
+                let place = places[&number];
+                (calls[place].reply, calls[place].end) = (Some(reply), events.len());
+                events.push((place, true));
+            }
+            Entry::Commit(_) => panic!("a history has no commits"),
+        }
+    }
+    // A call that does not return may come after all others.
+    for (place, call) in calls.iter_mut().enumerate().filter(|(_, call)| call.reply.is_none()) {
+        call.end = events.len();
+        events.push((place, true));
+    }
+    (calls, events)
+}
+
+/// Wing and Gong's search, depth first, with Lowe's memory: no set of calls is tried twice on one tree.
+fn linearize(input: &[u8]) -> Vec<u8> {
+    let (calls, events) = history_of(input);
+    let last = events.len();
+    let mut list =
+        Events { next: (1..=last + 1).collect(), before: (0..=last).map(|at| at.saturating_sub(1)).collect() };
+    let (mut tree, mut seen, mut stack) = (Tree::new(), HashSet::new(), Vec::new());
+    let (mut event, mut key, mut committed) = (list.next[0], 0, 0u64);
+    let mut left = calls.iter().filter(|call| call.reply.is_some()).count();
+    while left > 0 {
+        let (place, is_return) = events[event];
+        if is_return {
+            // Each call that had begun before this return was tried: the last choice was wrong.
+            let Some((place, undo, old)) = stack.pop() else { return b"none\n".to_vec() };
+            let call: &Heard = &calls[place];
+            tree.take_back(undo);
+            key = old;
+            committed = committed.wrapping_sub(mixed(u64::MAX, place as u64));
+            left += usize::from(call.reply.is_some());
+            list.put_in(call.end);
+            list.put_in(call.begin);
+            event = list.next[call.begin];
+            continue;
+        }
+        let call = &calls[place];
+        let (reply, undo) = tree.apply_to_undo(&call.call);
+        let after = if matches!(undo, Undo::Nothing) { key } else { tree.key(0, 0) };
+        let set = committed.wrapping_add(mixed(u64::MAX, place as u64));
+        if call.reply.as_ref().map_or(true, |due| *due == reply) && seen.insert((set, after)) {
+            stack.push((place, undo, key));
+            (key, committed) = (after, set);
+            left -= usize::from(call.reply.is_some());
+            list.take_out(call.begin);
+            list.take_out(call.end);
+            event = list.next[0];
+        } else {
+            tree.take_back(undo);
+            event = list.next[event];
+        }
+    }
+    b"lawful\n".to_vec()
+}
+
 /// What one mutex keeps: the tree, and the journal by copies.
 struct Shared {
     tree: Tree,
@@ -606,8 +790,9 @@ fn main() {
     let text = match std::env::args().nth(1).as_deref() {
         Some("run") => run(&input),
         Some("check") => check(&input),
+        Some("linearize") => linearize(&input),
         Some("threads") => threads(&input),
-        _ => panic!("plain run, check or threads"),
+        _ => panic!("plain run, check, linearize or threads"),
     };
     std::io::stdout().lock().write_all(&text).unwrap();
 }

@@ -374,6 +374,10 @@ uint8_t atomfs_step(atomfs *fs, uint64_t seat, uint8_t *did, uint64_t *about);
  * atomfs_step, and *did is never ATOMFS_DID_WAIT. If no call is pending, and only then, *did is ATOMFS_DID_IDLE and
  * *seat is as it was. While calls are pending it always makes progress, so calling it in a loop completes all of them.
  *
+ * Such a loop ends. A begin adds two steps for each name in the paths of its call, and twelve. Each call of this function
+ * takes at least one away, and with no call pending none are left. So after n begins of calls with m names in their
+ * paths, counted since no call was pending, ATOMFS_DID_IDLE comes after at most 2 * m + 12 * n steps.
+ *
  * Returns OK, CLOSED. After an error nothing has changed. */
 uint8_t atomfs_step_any(atomfs *fs, uint64_t *seat, uint8_t *did, uint64_t *about);
 
@@ -528,6 +532,12 @@ uint8_t atomfs_trace(const char *script, size_t length, uint8_t schedule, uint64
  * NO_CALL and the faults of a journal. */
 uint8_t atomfs_draw(const char *text, size_t length, uint8_t schedule, uint64_t seed, uint64_t around, char *out,
                     size_t room, size_t *count);
+
+/** Makes the page that plays the run of a script, or a journal, event by event in a browser: one HTML file in ASCII, as
+ * `atomfs draw --html` prints it (docs/PLAYER.md). A journal has no schedule, so that is ignored. Also returns the
+ * faults of a journal. */
+uint8_t atomfs_page(const char *text, size_t length, uint8_t schedule, uint64_t seed, char *out, size_t room,
+                    size_t *count);
 
 /** Runs a script, and returns it again with the events of the run as its schedule. Words !checkpoint stay only with
  * ATOMFS_GIVEN. Also returns TOO_LARGE, with the line 0, if a script cannot have so many events. */

@@ -320,6 +320,13 @@ uint8_t atomfs_draw(const char *text, size_t length, uint8_t schedule, uint64_t 
     return of_text(PROVED(draw)(from(text), length, schedule, seed, around, into(out), room, count));
 }
 
+uint8_t atomfs_page(const char *text, size_t length, uint8_t schedule, uint64_t seed, char *out, size_t room,
+                    size_t *count) {
+    uint8_t status = may_make(text, length, out, room, count);
+    if (refused(status)) return status;
+    return of_text(PROVED(page)(from(text), length, schedule, seed, into(out), room, count));
+}
+
 uint8_t atomfs_schedule(const char *script, size_t length, uint8_t schedule, uint64_t seed, char *out, size_t room,
                         size_t *count) {
     uint8_t status = may_make(script, length, out, room, count);

@@ -48,6 +48,7 @@ uint8_t PROVED(run)(const char *, size_t, char *, size_t, size_t *);
 uint8_t PROVED(check)(const char *, size_t, char *, size_t, size_t *);
 uint8_t PROVED(trace)(const char *, size_t, uint8_t, uint64_t, uint8_t, char *, size_t, size_t *);
 uint8_t PROVED(draw)(const char *, size_t, uint8_t, uint64_t, uint64_t, char *, size_t, size_t *);
+uint8_t PROVED(page)(const char *, size_t, uint8_t, uint64_t, char *, size_t, size_t *);
 uint8_t PROVED(schedule)(const char *, size_t, uint8_t, uint64_t, char *, size_t, size_t *);
 uint8_t PROVED(seeds)(const char *, size_t, uint64_t, uint64_t, char *, size_t, size_t *);
 uint8_t PROVED(linearize)(const char *, size_t, uint64_t, uint8_t, char *, size_t, size_t *, uint8_t *);

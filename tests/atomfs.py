@@ -91,6 +91,10 @@ class Library:
         """The picture of a script's run by a schedule, or of a journal."""
         return self.text(lambda *told: self.atomfs_draw(text, len(text), schedule, seed, around, *told))
 
+    def page(self, text: bytes, schedule: int = Schedule.GIVEN, seed: int = 0) -> bytes:
+        """The page that plays a script's run by a schedule, or a journal."""
+        return self.text(lambda *told: self.atomfs_page(text, len(text), schedule, seed, *told))
+
     def schedule(self, script: bytes, schedule: int = Schedule.ROUND_ROBIN, seed: int = 0) -> bytes:
         """A script with the events of its run by a schedule as its words."""
         return self.text(lambda *told: self.atomfs_schedule(script, len(script), schedule, seed, *told))

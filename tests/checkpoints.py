@@ -27,7 +27,7 @@ def script(*lines: str, version: int = 1) -> bytes:
 
 
 def under_way(call: int) -> Outcome:
-    return Outcome(1, b"", f"atomfs: call {call} under way\n".encode())
+    return Outcome(1, b"", f"atomfs: call {call} is pending\n".encode())
 
 
 EMPTY = text_of("atomfs-journal 1", "tree", "dir /", "begun 0 committed 0 returned 0")

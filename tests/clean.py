@@ -10,6 +10,7 @@ import shlex
 import shutil
 import subprocess
 import tempfile
+import typing
 import unittest
 import unittest.mock
 
@@ -21,7 +22,7 @@ import packages
 import progress
 import unproved
 from documents import EXAMPLES, PAGES, spans, table
-from harness import ROOT, Case
+from harness import ROOT, Case, match_in
 from worked import TOUR
 
 # What is built, and what a clone of files alone does not have.
@@ -57,8 +58,13 @@ with open(sys.stdin.buffer.readline().decode().strip(), "wb") as answers:
 
 
 class Clean(Case):
+    folder: pathlib.Path
+    clone: pathlib.Path
+    compiled: pathlib.Path
+    environment: dict[str, str]
+
     @classmethod
-    def setUpClass(cls):
+    def setUpClass(cls) -> None:
         harness.takes_a_process()
         cls.folder = pathlib.Path(cls.enterClassContext(tempfile.TemporaryDirectory(prefix="atomfs-")))
         cls.clone, tools = cls.folder / "clone", cls.folder / "tools"
@@ -75,21 +81,30 @@ class Clean(Case):
         }
         cls.environment = own | stand_in | {"PATH": f"{tools}:{own['PATH']}"}
 
-    def typed(self, command):
+    def typed(self, command: str) -> subprocess.CompletedProcess[str]:
         """What comes of a command that is typed at the top of the clone."""
-        given = {"cwd": self.clone, "env": self.environment, "stdin": subprocess.DEVNULL, "timeout": MOST_SECONDS}
-        return subprocess.run(("bash", "-c", command), capture_output=True, text=True, **given)
+        return subprocess.run(
+            ("bash", "-c", command),
+            cwd=self.clone,
+            env=self.environment,
+            stdin=subprocess.DEVNULL,
+            capture_output=True,
+            text=True,
+            timeout=MOST_SECONDS,
+        )
 
-    def succeeds(self, command):
+    def succeeds(self, command: str) -> str:
         """What a command writes that is to end with status 0."""
         done = self.typed(command)
         self.same(command, (done.returncode, done.stderr if done.returncode else ""), (0, ""))
         return done.stdout
 
-    def test_quick(self):
+    def test_quick(self) -> None:
         """`tests/run --quick` passes, and has looked at no program that is built."""
         done = self.typed("tests/run --quick")
-        passed, failed = re.fullmatch(r"(\d+) passed, (\d+) failed", done.stdout.splitlines()[-1]).groups()
+        last = re.fullmatch(r"(\d+) passed, (\d+) failed", done.stdout.splitlines()[-1])
+        assert last
+        passed, failed = last.groups()
         self.same("tests/run --quick", (int(failed), done.returncode, done.stderr if int(failed) else ""), (0, 0, ""))
         self.assertGreater(int(passed), 2_000)
         parts = re.findall(r"^tests/run: +[\d.]+ s +[\d.]+ processor-seconds tests/(\w+)\.py$", done.stderr, re.M)
@@ -97,14 +112,14 @@ class Clean(Case):
         self.assertRegex(done.stderr, r"(?m)^tests/run: in all +[\d.]+ processor-minutes$")
         self.assertFalse([path for path in self.clone.glob("crates/*/out")])
 
-    def test_examples(self):
+    def test_examples(self) -> None:
         """The rows of examples/README.md that need no proof."""
         rows = ((spans(runs)[0], prints) for _, _, runs, prints in table(EXAMPLES, "File", "Shows", "Run", "Prints"))
         found = [(command, command, prints) for command, prints in rows if command.startswith("examples/run ")]
         self.assertGreater(len(found), 3)
         self.each(found, self.example)
 
-    def example(self, command, prints):
+    def example(self, command: str, prints: str) -> None:
         done, status = self.typed(command), re.search(r"status (\d)", prints)
         self.same(command, done.returncode, int(status[1]) if status else 0)
         if " check " in command:
@@ -113,9 +128,9 @@ class Clean(Case):
             self.same(command, model.replayed(done.stdout), None)
 
     @staticmethod
-    def commands():
+    def commands() -> typing.Iterator[tuple[str, str, list[str], str, str]]:
         """Each command of the program that a page, or a file of the tour, has a reader type, with its words, what it reads and what it writes."""
-        found = set()
+        found: set[str] = set()
         for path in (*PAGES, *TOUR.glob("*.*")):
             text = path.read_text()
             typed = spans(text) + [
@@ -123,11 +138,13 @@ class Clean(Case):
             ]
             found.update(command for command in typed if re.fullmatch(r"examples/run [a-z]+( .*)?", command))
         for command in sorted(found):
-            words, reads, writes = re.fullmatch(r"examples/run ([^<>]+?)(?: < (\S+))?(?: > (\S+))?", command).groups("")
+            parts = re.fullmatch(r"examples/run ([^<>]+?)(?: < (\S+))?(?: > (\S+))?", command)
+            assert parts
+            words, reads, writes = parts.groups("")
             if (ROOT / reads).is_file() or (not reads and " " in words):
                 yield command, command, shlex.split(words), reads, writes
 
-    def test_from_a_seed_to_a_picture(self):
+    def test_from_a_seed_to_a_picture(self) -> None:
         """From drawn runs to a kept one, one command after the other: the later ones read what the earlier ones wrote."""
         script = "< examples/moved_ancestor.script"
         self.same(
@@ -145,20 +162,20 @@ class Clean(Case):
         self.same("draw", self.succeeds("examples/run draw < kept.script > kept.svg"), "")
         self.assertTrue((self.clone / "kept.svg").read_text().startswith("<svg "))
 
-    def test_commands(self):
+    def test_commands(self) -> None:
         """They stand as a reader can type them, and write what the program writes."""
         rows = list(self.commands())
         self.assertGreater(len(rows), 12)
         self.each(rows, self.command)
 
-    def command(self, command, words, reads, writes):
+    def command(self, command: str, words: list[str], reads: str, writes: str) -> None:
         wanted = harness.run((ROOT / reads).read_bytes() if reads else b"", *words)
         done = self.typed(command)
         written = (self.clone / writes).read_text() if writes else done.stdout
         self.same(command, (done.returncode, written), (wanted.status, wanted.output.decode()))
         self.assertIn(wanted.status, (0, 1))
 
-    def test_each_word(self):
+    def test_each_word(self) -> None:
         """`examples/run` takes every command that the program has."""
         words = re.findall(
             r"^  (\w+) ", self.succeeds("examples/run help").split("Commands:\n")[1].split("\n\n")[0], re.M
@@ -166,37 +183,37 @@ class Clean(Case):
         self.assertIn("trace", words)
         self.each(((word, word) for word in words if word != "help"), self.word)
 
-    def word(self, word):
+    def word(self, word: str) -> None:
         self.assertIn(f"Usage: atomfs {word}", self.succeeds(f"examples/run {word} --help"))
 
-    def test_versions(self):
+    def test_versions(self) -> None:
         """A script of each version runs, and a journal of each is refused as one."""
         self.each(((header.decode(), header.decode()) for header in grammar.SCRIPTS), self.script_of)
         self.each(((header.decode(), header.decode()) for header in grammar.JOURNALS), self.journal_of)
 
-    def script_of(self, header):
+    def script_of(self, header: str) -> None:
         text = f"{header}\nthread a\nmkdir /a\nschedule\nfinish\n"
         told = self.succeeds(f"printf %s {shlex.quote(text)} | examples/run")
         self.same(header, told, harness.run(text.encode(), "run").output.decode())
 
-    def journal_of(self, header):
+    def journal_of(self, header: str) -> None:
         done = self.typed(f"echo {shlex.quote(header)} | examples/run")
         told = (
             "atomfs: line 1: BadHeader\nexamples/run: standard input: this is a journal: examples/run check reads it\n"
         )
         self.same(header, (done.returncode, done.stdout, done.stderr), (3, "", told))
 
-    def test_other_header(self):
+    def test_other_header(self) -> None:
         """A script of no version is refused with the headers that there are."""
         done = self.typed("echo atomfs 4 | examples/run")
         last = done.stderr.splitlines()[-1].rpartition(": ")[2]
         named = [span.encode() for span in spans(last)]
         self.same("atomfs 4", (done.returncode, named), (3, list(grammar.SCRIPTS)))
 
-    def test_seconds(self):
+    def test_seconds(self) -> None:
         """While a program is compiled a line says how many seconds that has taken: on a terminal in one line, which is gone at the end, else in lines."""
         ask = "import subprocess, unproved; process = subprocess.Popen(('sleep', '2.6')); unproved.wait(process, lambda seconds: f'compiles: {seconds} s', 1)"
-        words = {"cwd": ROOT / "tests", "stdin": subprocess.DEVNULL}
+        words: dict[str, typing.Any] = {"cwd": ROOT / "tests", "stdin": subprocess.DEVNULL}
         lines = subprocess.run(("python3", "-c", ask), stderr=subprocess.PIPE, text=True, check=True, **words).stderr
         self.same("in lines", lines, "compiles: 1 s\ncompiles: 2 s\n")
         ours, theirs = pty.openpty()
@@ -206,7 +223,7 @@ class Clean(Case):
         self.same("on a terminal", progress.told_on(ours), f"\rcompiles: 1 s\rcompiles: 2 s\r{'':{width}}\r".encode())
         os.close(ours)
 
-    def test_limit(self):
+    def test_limit(self) -> None:
         """A program that takes too many processor-seconds is stopped: what it answered is judged, and the rest is left out."""
         batch = unproved.Batch(seconds=1)
         program = self.folder / "slow"
@@ -221,7 +238,7 @@ class Clean(Case):
             with self.assertRaisesRegex(unittest.SkipTest, "had taken its 1 processor-seconds"):
                 batch.answer((word,), b"")
 
-    def test_many(self):
+    def test_many(self) -> None:
         """Without a proved program `examples/many` runs the unproved one here, and sends no other machine any."""
         packages.wanted("parallel")
         done = self.typed("examples/many/seeds examples/one_name.script 1 3")
@@ -232,7 +249,7 @@ class Clean(Case):
         if "rsync is not" not in done.stderr:
             self.assertIn("other machines get no other: examples/run --proved builds it", done.stderr)
 
-    def test_moved_ancestor(self):
+    def test_moved_ancestor(self) -> None:
         """The example shows what its row says: the file is written below the directory that has moved."""
         text = self.succeeds("examples/run examples/moved_ancestor.script")
         (write,) = re.findall(r"^begin (\d+) .* write /work/today/notes", text, re.M)
@@ -245,7 +262,7 @@ class Clean(Case):
         self.same("the order of the entries", places, sorted(places))
         self.assertIn("file /done/first/notes 6e6f746573", entries)
 
-    def test_kept(self):
+    def test_kept(self) -> None:
         """The unproved program is compiled once for the same sources, and anew where one has changed."""
         for _ in range(2):
             self.succeeds("examples/run examples/one_name.script")
@@ -271,14 +288,14 @@ class Costs(Case):
     LESS = f"what earlier runs kept is not counted; from nothing it may be {costs.MOST_MINUTES} processor-minutes"
 
     @staticmethod
-    def parts(*processors):
+    def parts(*processors: float) -> list[costs.Part]:
         kinds = costs.PROOFS, costs.LIBRARY, costs.TESTS, costs.TESTS
         return [
             costs.Part(f"part {number}", kind, 10.0, taken)
             for number, (kind, taken) in enumerate(zip(kinds, processors))
         ]
 
-    def test_told(self):
+    def test_told(self) -> None:
         self.each(
             (
                 ("from nothing", (14_000.0, 300.0, 60.0, 40.0), costs.FROM_NOTHING, "240.0", None),
@@ -289,7 +306,7 @@ class Costs(Case):
             self.look,
         )
 
-    def look(self, processors, work, minutes, last):
+    def look(self, processors: tuple[float, ...], work: str, minutes: str, last: str | None) -> None:
         lines = list(costs.told(self.parts(*processors), work))
         sums = [" ".join(line.split()) for line in lines[4:8]]
         kinds = (costs.PROOFS, processors[0]), (costs.LIBRARY, processors[1]), (costs.TESTS, sum(processors[2:]))
@@ -303,7 +320,7 @@ class Costs(Case):
         )
         self.same("what follows", lines[8:], [last] if last else [])
 
-    def test_work(self):
+    def test_work(self) -> None:
         """How much `rt ci` did is read from its last line but one."""
         of = "rt: ok; handles allowed: none; must-fail edits: 3 refused; "
         self.each(
@@ -315,12 +332,12 @@ class Costs(Case):
                     self.KEPT,
                 ),
             ),
-            lambda line, work: self.same(line, re.search(costs.WORK, line)[0], work),
+            lambda line, work: self.same(line, match_in(costs.WORK, line)[0], work),
         )
 
-    def test_measured(self):
+    def test_measured(self) -> None:
         """The processors of what ended below are counted, and waiting is not."""
-        parts = []
+        parts: list[costs.Part] = []
         with costs.measured(parts, "busy", costs.TESTS):
             subprocess.run(("python3", "-c", "import time\nwhile time.process_time() < 0.5: pass"), check=True)
         with costs.measured(parts, "idle", costs.TESTS):

@@ -21,6 +21,7 @@ tests/model.py has to come to the same replies and to the same tree.
 """
 import ctypes
 import functools
+import typing
 import unittest
 
 import harness
@@ -58,7 +59,7 @@ STEPS = {
 }
 
 
-def rows(file):
+def rows(file: str) -> typing.Iterator[tuple[str, list[str]]]:
     """The paragraphs of a file: of each its name and its lines."""
     text = (harness.DATA / "transcripts" / file).read_text()
     for paragraph in text.removesuffix("\n").split("\n\n"):
@@ -66,9 +67,9 @@ def rows(file):
         yield name.removeprefix("# "), lines
 
 
-def questions(lines):
+def questions(lines: list[str]) -> list[list[str]]:
     """The lines that are asked, each with the answer that is wanted."""
-    pairs = []
+    pairs: list[list[str]] = []
     for line in lines:
         if line.startswith("    "):
             pairs[-1][1] += line.removeprefix("    ") + "\n"
@@ -78,12 +79,12 @@ def questions(lines):
     return pairs
 
 
-def entries_of(tree):
+def entries_of(tree: atomfs.Tree) -> list[list[str]]:
     """The words of each entry of a tree's journal: its kind, the number of its call, and the rest."""
     return [line.split(" ", 2) for line in tree.entries()[0].decode().splitlines()]
 
 
-def run_text(tree):
+def run_text(tree: atomfs.Tree) -> str:
     """The run text of a tree."""
     kinds = [kind for kind, *_ in entries_of(tree)]
     begun, committed, returned = (kinds.count(kind) for kind in ("begin", "commit", "return"))
@@ -93,27 +94,30 @@ def run_text(tree):
 class Stage:
     """What lines are asked of: a tree, if one was opened, and a text."""
 
-    def __init__(self):
-        self.tree, self.seats, self.given = None, 0, ""
+    def __init__(self) -> None:
+        self.tree: typing.Any = None
+        self.seats, self.given = 0, ""
         # The call that began last on each seat, and the replies that were told.
-        self.last, self.told = {}, {}
+        self.last: dict[int, int] = {}
+        self.told: dict[int, str] = {}
 
-    def __enter__(self):
+    def __enter__(self) -> "Stage":
         return self
 
-    def __exit__(self, *error):
+    def __exit__(self, *error: object) -> None:
         if self.tree:
             # Whether a handle closes is a row of its own: here it would hide why one failed.
             harness.library().atomfs_close(self.tree.handle)
 
-    def answer(self, line):
+    def answer(self, line: str) -> str:
         """What a line is answered: a status where it is refused."""
         try:
             return self.done(line)
         except atomfs.Error as error:
-            return f"{error.status.name} {error.about}" if error.about else error.status.name
+            name: str = error.status.name
+            return f"{name} {error.about}" if error.about else name
 
-    def done(self, line):
+    def done(self, line: str) -> str:
         word, _, rest = line.partition(" ")
         if word.isdigit():
             return self.event(int(word), rest)
@@ -124,9 +128,10 @@ class Stage:
         if line[0] == "|":
             self.given += line[1:] + "\n"
             return ""
-        return getattr(self, f"on_{word}")(*rest.split(" ", 1) if rest else ())
+        asked: typing.Callable[..., str] = getattr(self, f"on_{word}")
+        return asked(*rest.split(" ", 1) if rest else ())
 
-    def event(self, seat, rest):
+    def event(self, seat: int, rest: str) -> str:
         match rest:
             case "":
                 return self.step(seat)
@@ -135,25 +140,25 @@ class Stage:
             case _:
                 return f"began {self.begin(seat, rest)}"
 
-    def begin(self, seat, call):
+    def begin(self, seat: int, call: str) -> int:
         self.last[seat] = self.tree.begin(seat, call.encode())
         return self.last[seat]
 
-    def step(self, seat):
+    def step(self, seat: int) -> str:
         did, about = self.tree.step(seat)
         words, is_about = STEPS[did]
         if did == Did.RETURN:
             words = f"{words} {self.on_reply(self.last[seat])}"
         return f"{words} {about}" if is_about or about else words
 
-    def steps(self, seat):
+    def steps(self, seat: int) -> list[str]:
         """The steps of a seat up to the return of its call."""
         steps = [self.step(seat)]
         while not steps[-1].startswith("returned") and len(steps) < MOST_STEPS:
             steps.append(self.step(seat))
         return steps
 
-    def ran(self, seat, call):
+    def ran(self, seat: int, call: str) -> tuple[int, str]:
         """The number and the reply of a call that begins and returns."""
         try:
             number, reply = self.tree.run(seat, call.encode())
@@ -164,22 +169,22 @@ class Stage:
         self.told[number] = reply.decode()
         return number, self.told[number]
 
-    def rounds(self, count, calls):
+    def rounds(self, count: str, calls: str) -> str:
         replies = [
             self.ran(0, call.replace("#", str(number)))[1] for number in range(int(count)) for call in calls.split("; ")
         ]
         return f"{replies.count('ok')} ok"
 
-    def on_open(self, limit, rest, text=None):
+    def on_open(self, limit: str, rest: str, text: bytes | None = None) -> str:
         self.seats, version = (*map(int, rest.split(" ")), 1)[:2]
         self.tree = atomfs.Tree(harness.library(), int(limit), version, text)
         numbers = [self.tree.seat() for _ in range(self.seats)]
         return "" if numbers == list(range(self.seats)) else f"seats {numbers}"
 
-    def on_from(self, limit, rest):
+    def on_from(self, limit: str, rest: str) -> str:
         return self.on_open(limit, rest, self.given.encode())
 
-    def on_copy(self, limit):
+    def on_copy(self, limit: str) -> str:
         with atomfs.Tree(harness.library(), int(limit), other=self.tree) as copy:
             try:
                 seat = copy.step(0)
@@ -187,52 +192,54 @@ class Stage:
                 seat = error.status.name
             return f"{copy.tree().decode()}{copy.entries()[1]} entries, {seat}\n"
 
-    def on_checkpoint(self):
-        handed_out = self.tree.checkpoint().decode()
+    def on_checkpoint(self) -> str:
+        handed_out: str = self.tree.checkpoint().decode()
         self.last, self.told = {}, {}
         return handed_out
 
-    def on_opening(self):
-        return self.tree.opening().decode()
+    def on_opening(self) -> str:
+        opening: bytes = self.tree.opening()
+        return opening.decode()
 
-    def on_run(self, seat, call=""):
+    def on_run(self, seat: str, call: str = "") -> str:
         number, reply = self.ran(int(seat), call)
         return f"call {number} returned {reply}"
 
-    def on_find(self, path):
+    def on_find(self, path: str) -> str:
         seat = self.tree.seat()
         self.begin(seat, f"stat {path}")
         *before, last = self.steps(seat)
         taken = [step.removeprefix("took ") for step in before if step.startswith("took ")]
         return taken[-1] if last.startswith("returned stat") else "none"
 
-    def on_reply(self, number):
+    def on_reply(self, number: int | str) -> str:
         self.told[int(number)] = self.tree.reply(int(number)).decode()
         return self.told[int(number)]
 
-    def on_journal(self, first):
+    def on_journal(self, first: str) -> str:
         lines, count = self.tree.entries(int(first))
         return f"{lines.decode()}{count} entries\n"
 
-    def on_entries(self):
+    def on_entries(self) -> str:
         return str(self.tree.entries()[1])
 
-    def on_tree(self):
-        return self.tree.tree().decode()
+    def on_tree(self) -> str:
+        tree: bytes = self.tree.tree()
+        return tree.decode()
 
-    def on_last(self):
+    def on_last(self) -> str:
         return self.on_tree().splitlines()[-1]
 
-    def on_script(self):
+    def on_script(self) -> str:
         return harness.library().run(self.given.encode()).decode()
 
-    def on_robin(self):
+    def on_robin(self) -> str:
         return harness.run(self.given.encode(), "run", "--robin").output.decode()
 
-    def on_check(self):
+    def on_check(self) -> str:
         return harness.library().check(self.given.encode()).decode()
 
-    def settles(self):
+    def settles(self) -> bool:
         """Does rounds of steps, and answers whether they come to where no call is under way."""
         rounds = ([self.step(seat) for seat in range(self.seats)] for _ in range(MOST_STEPS))
         return any(all(step == "idle" for step in steps) for steps in rounds)
@@ -241,7 +248,7 @@ class Stage:
 class Transcripts(harness.Case):
     """Lines and their answers, as they are stored."""
 
-    def play(self, lines):
+    def play(self, lines: list[str]) -> None:
         given = ""
         with Stage() as stage:
             for line, wanted in questions(lines):
@@ -251,7 +258,7 @@ class Transcripts(harness.Case):
                 self.same(given + "rounds of steps", stage.settles(), True)
                 self.is_right(stage)
 
-    def is_right(self, stage):
+    def is_right(self, stage: Stage) -> None:
         """The journal is lawful and has the replies that were told, and the model comes to it and to the tree."""
         stage.given = text = run_text(stage.tree)
         self.same(text, stage.answer("check"), "lawful\n")
@@ -259,20 +266,20 @@ class Transcripts(harness.Case):
         returned = {int(number): rest[0] for kind, number, *rest in entries_of(stage.tree) if kind == "return"}
         self.same(text, stage.told, {number: returned.get(number) for number in stage.told})
 
-    def test_cores(self):
+    def test_cores(self) -> None:
         self.each(rows("cores"), self.play)
 
-    def test_trees(self):
+    def test_trees(self) -> None:
         self.each(rows("trees"), self.play)
 
-    def test_embed(self):
+    def test_embed(self) -> None:
         self.each(rows("embed"), self.play)
 
-    def test_starts(self):
+    def test_starts(self) -> None:
         self.each(rows("starts"), self.play)
 
 
-def functions(handle):
+def functions(handle: typing.Any) -> dict[str, typing.Callable[[], int]]:
     """The functions of an open handle, on arguments that do where its first seat is free and its first call has returned."""
     did, number, count, entries = ctypes.c_uint8(), ctypes.c_uint64(), ctypes.c_size_t(), ctypes.c_size_t()
     line, told = (b"stat /", 6), (ctypes.create_string_buffer(256), 256, count)
@@ -295,17 +302,17 @@ def functions(handle):
 class Handles(harness.Case):
     """Handles that are opened with and without success, and asked before, while and after they are open."""
 
-    def answers(self, given, status, wanted):
+    def answers(self, given: str, status: int, wanted: Status) -> None:
         self.same(given, Status(status).name, wanted.name)
 
-    def opens(self, given, handle, limit, wanted):
+    def opens(self, given: str, handle: typing.Any, limit: int, wanted: Status) -> None:
         self.answers(given, harness.library().atomfs_open(handle, limit), wanted)
 
-    def is_at(self, given, tree, journal, text):
+    def is_at(self, given: str, tree: atomfs.Tree, journal: bytes, text: bytes) -> None:
         self.same(f"{given}; journal", tree.entries()[0], journal)
         self.same(f"{given}; tree", tree.tree(), text)
 
-    def is_limit(self, limit, wanted):
+    def is_limit(self, limit: int, wanted: Status) -> None:
         """A handle is open behind a limit that is good, and closed behind another."""
         handle = atomfs.Handle()
         self.opens(f"open {limit}", handle, limit, wanted)
@@ -315,7 +322,7 @@ class Handles(harness.Case):
             Status.OK if wanted == Status.OK else Status.CLOSED,
         )
 
-    def test_limits(self):
+    def test_limits(self) -> None:
         good, bad = (1, MOST_NODES), (0, MOST_NODES + 1, 2**64 - 1)
         self.each(
             [(str(limit), limit, Status.OK) for limit in good]
@@ -323,7 +330,7 @@ class Handles(harness.Case):
             self.is_limit,
         )
 
-    def is_open_already(self, limit):
+    def is_open_already(self, limit: int) -> None:
         """A tree is as it was where its handle is opened once more."""
         given = f"open 2; seat; call mkdir /a; open {limit}"
         with Stage() as stage:
@@ -337,10 +344,10 @@ class Handles(harness.Case):
                 ["idle", "NO_SEAT", "FULL"],
             )
 
-    def test_an_open_handle(self):
+    def test_an_open_handle(self) -> None:
         self.each([(str(limit), limit) for limit in (2, 9, 0, MOST_NODES + 1)], self.is_open_already)
 
-    def is_closed(self, name):
+    def is_closed(self, name: str) -> None:
         """A function is refused before the handle is open and after it was closed, and the handle can be opened then."""
         handle = atomfs.Handle()
         ask = functions(handle)
@@ -353,10 +360,10 @@ class Handles(harness.Case):
             ask["close"]()
             self.answers(f"{again}open; seat; call; {name}; close; {name}", ask[name](), Status.CLOSED)
 
-    def test_closed_handles(self):
+    def test_closed_handles(self) -> None:
         self.each([(name, name) for name in functions(atomfs.Handle())], self.is_closed)
 
-    def test_a_handle_that_is_opened_again(self):
+    def test_a_handle_that_is_opened_again(self) -> None:
         """It has nothing of the tree that was closed, whose call was under way."""
         with Stage() as stage:
             for line in ("open 9 2", "mkdir /a", "1 mkdir /a/b", "1"):
@@ -369,7 +376,7 @@ class Handles(harness.Case):
             lines = {"run 0 mkdir /b": "call 1 returned ok", "mkdir /c": "FULL", "1": "NO_SEAT"}
             self.same("close; open 2; seat; calls and a step", {line: stage.answer(line) for line in lines}, lines)
 
-    def test_two_handles(self):
+    def test_two_handles(self) -> None:
         """What one is asked leaves the tree of the other."""
         with Stage() as one, Stage() as other:
             for stage, lines in (
@@ -399,7 +406,7 @@ TOLD = {
 }
 
 
-def told(tree, name):
+def told(tree: atomfs.Tree, name: str) -> typing.Callable[..., int]:
     """A function on all but where it tells its text."""
     library, handle, number, entries = tree.library, tree.handle, ctypes.c_uint64(), ctypes.c_size_t()
     return {
@@ -415,7 +422,7 @@ def told(tree, name):
 class Rooms(harness.Case):
     """Texts that are told where there is more room than they need, as much, less, and none."""
 
-    def tells(self, ask, text, room, most):
+    def tells(self, ask: typing.Callable[..., int], text: bytes, room: int, most: int) -> None:
         """Where there is room for the text, it is written and nothing behind it; else nothing is. Its length is told."""
         before = b"." * most
         out, count = ctypes.create_string_buffer(before, most), ctypes.c_size_t()
@@ -423,7 +430,7 @@ class Rooms(harness.Case):
         wanted = (Status.OK, text + before[len(text) :]) if room >= len(text) else (Status.TOO_SMALL, before)
         self.same(f"{len(text)} bytes in {room}", (status, out.raw, count.value), (*wanted, len(text)))
 
-    def look(self, name, room):
+    def look(self, name: str, room: int) -> None:
         text, most = TOLD[name], len(TOLD[name]) + 9
         with atomfs.Tree(harness.library(), 9) as tree:
             tree.seat()
@@ -435,8 +442,8 @@ class Rooms(harness.Case):
             else:
                 self.tells(told(tree, name), text, most, most)
 
-    def test(self):
-        rooms = {
+    def test(self) -> None:
+        rooms: dict[str, typing.Callable[[int], int]] = {
             "more": lambda size: size + 2,
             "as much": lambda size: size,
             "less": lambda size: size - 1,

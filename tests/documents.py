@@ -14,12 +14,13 @@ import shlex
 import shutil
 import subprocess
 import sys
+import typing
 import unittest
 
 import harness
 import model
 import unproved
-from harness import DATA, ROOT, Case, Outcome, run
+from harness import DATA, ROOT, Case, Outcome, match_in, run
 from promised import promises
 
 README, EXAMPLES, DOCS = ROOT / "README.md", ROOT / "examples" / "README.md", ROOT / "docs"
@@ -57,63 +58,63 @@ BY_ROBIN = b"atomfs 1\nthread m\nmkdir /a\nmkdir /a/d\nmkdir /a/d/x\nthread r\nr
 MOST_WORDS, MOST_OF_A_CRATE = {README: 1_450, DOCS / "FIRST-RACE.md": 1_000}, 140
 
 
-def by_path(pages):
+def by_path(pages: typing.Iterable[pathlib.Path]) -> typing.Iterator[tuple[str, pathlib.Path]]:
     """Rows of pages by their paths."""
     return ((str(page.relative_to(ROOT)), page) for page in pages)
 
 
-def blocks(page, language=""):
+def blocks(page: pathlib.Path, language: str = "") -> list[str]:
     """The fenced blocks of a page in a language."""
     fenced = re.findall(r"^```(\w*)\n(.*?)^```$", page.read_text(), re.M | re.S)
     return [block for of, block in fenced if of == language]
 
 
-def prose(page):
+def prose(page: pathlib.Path) -> str:
     """A page without its fenced blocks."""
     return re.sub(r"^```.*?^```$", "", page.read_text(), flags=re.M | re.S)
 
 
-def spans(text):
+def spans(text: str) -> list[str]:
     """What stands in backquotes."""
     return re.findall(r"`([^`\n]+)`", text)
 
 
-def tables(page, *head):
+def tables(page: pathlib.Path, *head: str) -> list[list[list[str]]]:
     """The tables of a page with these columns, each as the cells of its rows."""
     found = re.findall(r"(?:^\|.*\|\n)+", page.read_text(), re.M)
     rows = [[[cell.strip() for cell in line[1:-1].split("|")] for line in table.splitlines()] for table in found]
     return [table[2:] for table in rows if table[0] == list(head)]
 
 
-def table(page, *head):
+def table(page: pathlib.Path, *head: str) -> list[list[str]]:
     (only,) = tables(page, *head)
     return only
 
 
-def source(name):
+def source(name: str) -> str:
     return (CRATES / name).read_text()
 
 
-def constants(name):
+def constants(name: str) -> dict[str, int]:
     """The numbers that a source names."""
     return {
         name: int(value.replace("_", "")) for name, value in re.findall(r"const (\w+): \w+ = ([\d_]+);", source(name))
     }
 
 
-def body_of(name, enum):
+def body_of(name: str, enum: str) -> str:
     """What stands between the braces of an enum."""
-    return re.search(rf"enum {enum} \{{(.*?)^\}}", source(name), re.M | re.S)[1]
+    return match_in(rf"enum {enum} \{{(.*?)^\}}", source(name), re.M | re.S)[1]
 
 
-def variants(name, enum):
+def variants(name: str, enum: str) -> list[tuple[int, str]]:
     """The variants of an enum behind their numbers."""
     return [(int(value), variant) for variant, value in re.findall(r"^    (\w+) = (\d+),", body_of(name, enum), re.M)]
 
 
-def number(text):
+def number(text: str) -> int:
     """The first number of a text."""
-    return int(re.search(r"[\d,]+", text)[0].replace(",", ""))
+    return int(match_in(r"[\d,]+", text)[0].replace(",", ""))
 
 
 # What stands for a word in a line or a command of a page, and the words that are put there.
@@ -132,14 +133,14 @@ FILLED = {
 }
 
 
-def filled(pattern):
+def filled(pattern: str) -> str:
     """A line or a command of a page, with words in the place of what stands for them."""
     left = {name: iter(words) for name, words in FILLED.items()}
     first, *rest = pattern.split(" ")
     return " ".join([first, *(next(left[word]) if word in left else word for word in rest)])
 
 
-def text_of(*lines):
+def text_of(*lines: str) -> bytes:
     return "".join(f"{line}\n" for line in lines).encode()
 
 
@@ -147,7 +148,7 @@ def text_of(*lines):
 PACKAGES = {language: ROOT / "bindings" / language / "README.md" for language in ("python", "rust")}
 
 
-def example_for(command, *options):
+def example_for(command: str, *options: str) -> bytes:
     """The worked example as a command reads it: its script, the journal of its run, or that without commits; for `--core` a history without an order."""
     if command.startswith("shrink"):
         return BY_ROBIN
@@ -162,7 +163,7 @@ def example_for(command, *options):
 class Page(Case):
     """A test of what pages say. Of a row that fails it tells which side is the page, and which the repository or this machine."""
 
-    def agrees(self, subject, page, found):
+    def agrees(self, subject: object, page: object, found: object) -> None:
         """What a page says of a subject is what is found in the repository, or on this machine. Of two lists it tells what one alone has."""
         if isinstance(page, list) and isinstance(found, list):
             alone = [one for one in page if one not in found], [one for one in found if one not in page]
@@ -172,7 +173,7 @@ class Page(Case):
 
 
 class Sentences(Page):
-    def says(self, page, sentence):
+    def says(self, page: pathlib.Path, sentence: str) -> None:
         """A page has a sentence with these numbers, or with others in their place."""
         pattern = re.sub(r"\d+(,\d+)*", r"\\d+(,\\d+)*", re.escape(sentence))
         found = re.search(pattern, page.read_text())
@@ -190,9 +191,9 @@ class Pages(Page):
 
     @staticmethod
     @functools.cache
-    def ends():
+    def ends() -> set[str]:
         """The ends of all paths of the repository, each from any folder on."""
-        ends = set()
+        ends: set[str] = set()
         for folder, folders, files in os.walk(ROOT):
             folders[:] = [name for name in folders if name not in (".git", "out", "dist", "__pycache__")]
             for name in (*folders, *files):
@@ -200,16 +201,16 @@ class Pages(Page):
                 ends.update("/".join(parts[at:]) for at in range(len(parts)))
         return ends
 
-    def test_links(self):
+    def test_links(self) -> None:
         self.each(by_path(PAGES), self.look_at_links)
 
     @staticmethod
-    def anchors(page):
+    def anchors(page: pathlib.Path) -> set[str]:
         """The places of a page to which a link may lead: its headings."""
         headings = re.findall(r"^#+ (.*)", prose(page), re.M)
         return {re.sub(r"[^\w -]", "", heading.lower()).replace(" ", "-") for heading in headings}
 
-    def look_at_links(self, page):
+    def look_at_links(self, page: pathlib.Path) -> None:
         """Each but those into the net leads to a file or a folder that is there, and to a heading of it where it names one."""
         lost = []
         for link in re.findall(r"\]\(([^)\s]+)\)", prose(page)):
@@ -221,26 +222,26 @@ class Pages(Page):
                 lost.append(link)
         self.same(page.name, lost, [])
 
-    def test_paths(self):
+    def test_paths(self) -> None:
         self.each(by_path(NOW), self.look_at_paths)
 
-    def look_at_paths(self, page):
+    def look_at_paths(self, page: pathlib.Path) -> None:
         words = [word.removeprefix("../").rstrip("/") for span in spans(prose(page)) for word in span.split(" ")]
         paths = [word for word in words if self.A_PATH.fullmatch(word) and not self.ELSEWHERE.fullmatch(word)]
         self.same(page.name, [path for path in paths if not self.ends() & {path, f"{path}.antt"}], [])
 
-    def test_lengths(self):
+    def test_lengths(self) -> None:
         self.each(((page.name, page, most) for page, most in MOST_WORDS.items()), self.look_at_length)
 
-    def look_at_length(self, page, most):
+    def look_at_length(self, page: pathlib.Path, most: int) -> None:
         words = len(page.read_text().split())
         self.same(f"{page.name}, in words", max(words, most), most)
 
-    def test_of_crates(self):
+    def test_of_crates(self) -> None:
         """A crate's page is short, says what for and where to enter, and its paths are those of the crate, or begin with the name of another."""
         self.each(((page.parent.name, page) for page in OF_CRATES), self.look_at_crate)
 
-    def look_at_crate(self, page):
+    def look_at_crate(self, page: pathlib.Path) -> None:
         text = page.read_text()
         words = len(text.split())
         self.same(f"{page.parent.name}, in words", max(words, MOST_OF_A_CRATE), MOST_OF_A_CRATE)
@@ -263,16 +264,16 @@ class Sizes(Page):
     # Functions that are there to be proved: laws and worked examples.
     PROOFS = "laws.rt", "examples.rt"
     # Crates that have more until they are split. These numbers only fall.
-    LARGER = {"fs_flat": (1_500, 101), "fs_linearize": (1_751, 122)}
+    LARGER: dict[str, tuple[int, int]] = {}
     # Crates below this heading of crates.txt measure and check the product, and have as many functions as they have rows.
     BESIDE = "# No part of the product"
 
     @staticmethod
-    def opened(line):
+    def opened(line: str) -> int:
         """How many brackets a line opens beyond those that it closes."""
         return sum(map(line.count, "{(")) - sum(map(line.count, "})"))
 
-    def lines(self, text):
+    def lines(self, text: str) -> int:
         """How many lines of a source are counted."""
         counted, depth, goes_on = 0, 0, False
         for line in map(str.strip, text.splitlines()):
@@ -283,7 +284,7 @@ class Sizes(Page):
                 counted += 1
         return counted
 
-    def test_lines(self):
+    def test_lines(self) -> None:
         """The rule by which lines are counted."""
         text = """//! A file.
 ghost use A.{
@@ -303,12 +304,12 @@ fn one() -> u8
 """
         self.same(text, self.lines(text), 4)
 
-    def test_crates(self):
+    def test_crates(self) -> None:
         product, _, _ = (ROOT / "crates.txt").read_text().partition(self.BESIDE)
         names = re.findall(r"^(\w+)[^:\n]*:", product, re.M)
         self.each(((name, name) for name in names), self.look_at_crate)
 
-    def look_at_crate(self, name):
+    def look_at_crate(self, name: str) -> None:
         texts = [(path, path.read_text()) for path in (ROOT / "crates" / name / "src").rglob("*.rt")]
         lines = sum(self.lines(text) for _, text in texts)
         functions = sum(len(self.FUNCTION.findall(text)) for path, text in texts if path.name not in self.PROOFS)
@@ -331,7 +332,7 @@ class Named(Page):
 
     @classmethod
     @functools.cache
-    def sources(cls):
+    def sources(cls) -> dict[pathlib.Path, str]:
         """The text of each source by its path."""
         texts = {}
         for folder, folders, files in os.walk(ROOT):
@@ -347,13 +348,13 @@ class Named(Page):
 
     @classmethod
     @functools.cache
-    def words(cls):
+    def words(cls) -> set[str]:
         """The words of all sources, and of their paths."""
         return {word for path, text in cls.sources().items() for word in re.findall(r"\w+", f"{path}\n{text}")}
 
     @classmethod
     @functools.cache
-    def paths(cls):
+    def paths(cls) -> set[str]:
         """The last two parts of the path of each function, type, constant and variant of the crates."""
         found = set()
         for path, text in cls.sources().items():
@@ -368,10 +369,10 @@ class Named(Page):
                     found |= {f"{name}::{variant}" for variant in re.findall(r"^    (\w+)", body, re.M)}
         return found
 
-    def test_each(self):
+    def test_each(self) -> None:
         self.each(by_path(NOW), self.look)
 
-    def look(self, page):
+    def look(self, page: pathlib.Path) -> None:
         shown = spans(prose(page))
         words = {word for span in shown for word in re.findall(r"\w+", span) if not self.OF_LIBRARIES.match(span)}
         lost = [
@@ -383,11 +384,11 @@ class Named(Page):
         self.same("paths of no function or type", [span for span in shown if not self.is_there(span)], [])
 
     @staticmethod
-    def own_words(page):
+    def own_words(page: pathlib.Path) -> set[str]:
         """What a page itself names in its examples in Python, which are run."""
         return set(re.findall(r"\w+", "".join(blocks(page, "python"))))
 
-    def is_part(self, word):
+    def is_part(self, word: str) -> bool:
         """Whether it begins or ends with an underline, as words do that are named by one part."""
         return (
             word.endswith("_")
@@ -396,7 +397,7 @@ class Named(Page):
             and any(one.endswith(word) for one in self.words())
         )
 
-    def is_there(self, span):
+    def is_there(self, span: str) -> bool:
         """Whether a path of names ends at a function, a type or a variant, or stands so in a source."""
         if not re.fullmatch(r"\w+(::\w+)+", span) or self.OF_LIBRARIES.match(span):
             return True
@@ -406,7 +407,7 @@ class Named(Page):
 class Shown(Page):
     """The examples of pages are files that are run elsewhere, or parts of them."""
 
-    def test_worked_example(self):
+    def test_worked_example(self) -> None:
         """Its script and its run text; README has lines of its trace."""
         script, text, *_ = blocks(FORMATS)
         self.agrees("its script", script, HELPED.with_suffix(".script").read_text())
@@ -415,13 +416,13 @@ class Shown(Page):
         trace = (DATA / "traces" / "helped_mkdir.trace").read_text()
         self.agrees("its trace", part, part if f"\n{part}" in trace else trace)
 
-    def test_example_of_readme(self):
+    def test_example_of_readme(self) -> None:
         """Before the one in C stands what it prints. examples/embed/run runs it, and compares."""
         runs = (ROOT / "examples" / "embed" / "run").read_text()
         said = re.findall(r"this prints `(.*)`:\n\n```c\n", README.read_text())
         self.agrees("in C", said, re.findall(r'^prints readme_c README\.md "(.*?)" ', runs, re.M))
 
-    def test_archive_of_readme(self):
+    def test_archive_of_readme(self) -> None:
         """The archive that README unpacks is the one that embed/build makes."""
         version = harness.declared().version
         named = set(re.findall(r"atomfs-[\d.]*\d-[\w-]+", README.read_text()))
@@ -441,7 +442,8 @@ class Shown(Page):
         ("docs/RATTLE.md", "rust", 2, "tests/documents.py"),
         ("docs/READING-LIST.md", "", 1, "tests/documents.py"),
         ("docs/FORMATS.md", "", 2, "tests/documents.py"),
-        ("docs/PICTURES.md", "", 1, None),
+        ("docs/COMMANDS.md", "", 1, "tests/progress.py"),
+        ("docs/PICTURES.md", "", 2, "tests/objects.py"),
         ("docs/PLAYER.md", "python", 1, "tests/tutorials.py"),
         ("docs/TEST-A-FILE-SYSTEM.md", "", 4, "tests/histories.py, tests/recorders.py"),
         ("docs/TEST-A-FILE-SYSTEM.md", "python", 1, "tests/tutorials.py"),
@@ -455,7 +457,7 @@ class Shown(Page):
         ("examples/litmus/README.md", "", 1, "tests/documents.py"),
     )
 
-    def test_each_block(self):
+    def test_each_block(self) -> None:
         """Each is one that some test runs or compares, or a drawing."""
         found = collections.Counter(
             (str(page.relative_to(ROOT)), language)
@@ -479,7 +481,7 @@ class Shown(Page):
             ),
         )
 
-    def test_headline(self):
+    def test_headline(self) -> None:
         """The clauses that docs/READING-LIST.md shows are those of `Core::run`."""
         (clauses,) = blocks(READING)
         (run_of,) = (function for function in promises.public(CRATES / "fs_core") if function.name == "Core::run")
@@ -490,7 +492,7 @@ class Shown(Page):
         ]
         self.agrees("READING-LIST", clauses.splitlines(), due)
 
-    def test_excerpts(self):
+    def test_excerpts(self) -> None:
         """Each block in Rust stands in the source to which the page leads before it."""
         found = re.findall(r"\]\((\S+\.rt)\)((?:(?!^```).)*?)^```rust\n(.*?)^```$", RATTLE.read_text(), re.M | re.S)
         self.agrees(
@@ -498,7 +500,7 @@ class Shown(Page):
         )
         self.each(((link, link, shown) for link, _, shown in found), self.look_at_excerpt)
 
-    def look_at_excerpt(self, link, shown):
+    def look_at_excerpt(self, link: str, shown: typing.Any) -> None:
         lines = [line.strip() for line in (DOCS / link).read_text().splitlines()]
         self.same(link, [line for line in shown.splitlines() if line.strip() not in lines], [])
 
@@ -554,7 +556,7 @@ class Faults(Page):
     ROW = re.compile(r"^In a (\w+), for {1,6}(.*)\nwrite {15}(.*)\nbecause {13}.+\n", re.M)
 
     @staticmethod
-    def named():
+    def named() -> tuple[list[str], list[str]]:
         """The faults that the sources name: of words, and of paths."""
         kinds, paths = (
             re.findall(r'#\[error\("([A-Z]\w+)', source(name))
@@ -562,7 +564,7 @@ class Faults(Page):
         )
         return kinds, [path for path in paths if path != Faults.OF_NO_TEXT]
 
-    def rows(self):
+    def rows(self) -> typing.Iterator[tuple[typing.Any, ...]]:
         """Of each row the command that reads its text."""
         _, paths = self.named()
         for word, numbers in self.LINES.items():
@@ -575,11 +577,13 @@ class Faults(Page):
                 yield f"{command} {number} {' '.join(refused)}", command, lines, number, fault, refused, [instead]
 
     @staticmethod
-    def with_line(lines, number, line):
+    def with_line(lines: list[str], number: int, line: list[str]) -> bytes:
         """The text with another line of this number; it ends before it where there is none."""
         return text_of(*lines[: number - 1], *line, *(lines[number:] if line else ()))
 
-    def look(self, command, lines, number, fault, refused, instead):
+    def look(
+        self, command: str, lines: list[str], number: int, fault: str, refused: list[str], instead: list[str]
+    ) -> None:
         given = self.with_line(lines, number, refused)
         wanted = Outcome(3, b"", f"atomfs: line {number}: {fault}\n".encode())
         self.same(given, run(given, command), harness.with_line(wanted, given))
@@ -591,10 +595,10 @@ class Faults(Page):
         else:
             self.same(given, model.replayed(output.decode()), None)
 
-    def test_each_row(self):
+    def test_each_row(self) -> None:
         self.each(self.rows(), self.look)
 
-    def test_each_fault_has_a_row(self):
+    def test_each_fault_has_a_row(self) -> None:
         """The faults that the sources name, with those of paths, are those of the page; and each has a row."""
         kinds, paths = self.named()
         means = {spans(fault)[0]: spans(meaning) for fault, meaning, _ in table(FORMATS, "Fault", "Means", "Line")}
@@ -611,7 +615,7 @@ class Faults(Page):
         )
 
 
-def explanations():
+def explanations() -> dict[str, bytes]:
     """What `atomfs explain` is to print of each word."""
     return {path.name: path.read_bytes() for path in EXPLAINED.iterdir()}
 
@@ -619,15 +623,15 @@ def explanations():
 class Explained(Page):
     """What `atomfs explain` prints of each fault is what is stored, and means what the tables of docs/FORMATS.md and docs/SPECIFICATION.md say."""
 
-    def test_each_kind(self):
+    def test_each_kind(self) -> None:
         self.each(((word, word) for word in sorted(explanations())), self.look)
-        listed = re.search(r"\[possible values: (.*)\]", (DATA / "help" / "explain").read_text())[1]
+        listed = match_in(r"\[possible values: (.*)\]", (DATA / "help" / "explain").read_text())[1]
         self.agrees("the words that have a text", sorted(explanations()), sorted(listed.split(", ")))
 
-    def look(self, word):
+    def look(self, word: str) -> None:
         self.same(f"atomfs explain {word}", run(b"", "explain", word), Outcome(0, explanations()[word]))
 
-    def test_meanings(self):
+    def test_meanings(self) -> None:
         means = {
             spans(fault)[0].split(" ")[-1]: meaning for fault, meaning, _ in table(FORMATS, "Fault", "Means", "Line")
         }
@@ -645,9 +649,9 @@ class Explained(Page):
         shown = {word: text.decode().splitlines()[0] for word, text in explanations().items()}
         self.agrees("what the words mean", {word: f"{word}: {meaning}" for word, meaning in means.items()}, shown)
 
-    def test_two_words(self):
+    def test_two_words(self) -> None:
         """As a message has them."""
-        for path in spans(re.search(r"^\| `BadPath` and .*", FORMATS.read_text(), re.M)[0])[1:]:
+        for path in spans(match_in(r"^\| `BadPath` and .*", FORMATS.read_text(), re.M)[0])[1:]:
             texts = explanations()
             self.same(
                 f"atomfs explain BadPath {path}",
@@ -659,24 +663,24 @@ class Explained(Page):
 class Grammar(Page):
     """Each line of a call, and each reply, that a page shows."""
 
-    def test_calls(self):
+    def test_calls(self) -> None:
         shown = [span for row in table(FORMATS, "Line", "The words after the first") for span in spans(row[0])]
         also = [call for row in table(SPECIFICATION, "Call", "Errors, in order", "Else") for call in row[0].split(", ")]
         self.each(((line, filled(line)) for line in (*shown, *also)), self.look_at_call)
         for lines in (shown, also):
             self.agrees(lines, sorted(call.split(" ")[0] for call in lines), sorted(calls()))
 
-    def look_at_call(self, call):
+    def look_at_call(self, call: str) -> None:
         """By the third limits, which have every call."""
         given = text_of("atomfs 3", "thread t", call, "schedule", "finish")
         self.same(given, model.begun(run(given, "run").output.decode()), {0: [call]})
 
-    def test_replies(self):
+    def test_replies(self) -> None:
         """A reply that can be read is that of a call which never began."""
         replies = [span for row in table(FORMATS, "Text", "Reply") for span in spans(row[0])]
         self.each(((reply, f"return 1 {filled(reply)}") for reply in replies), self.look_at_reply)
 
-    def look_at_reply(self, entry):
+    def look_at_reply(self, entry: str) -> None:
         given = text_of("atomfs-journal 1", entry)
         self.same(
             given,
@@ -688,7 +692,7 @@ class Grammar(Page):
 class Commands(Page):
     """Each command that a page shows and that takes less than a minute, as it stands."""
 
-    def due(self):
+    def due(self) -> dict[str, bytes]:
         """What comes of a command on the worked example."""
         text, robin, drawn = (
             HELPED.with_suffix(ending).read_bytes() for ending in (".text", ".robin.text", ".drawn.text")
@@ -720,24 +724,24 @@ class Commands(Page):
         }
 
     @staticmethod
-    def shown(cell):
+    def shown(cell: str) -> list[str]:
         """The commands of a cell, of which the later ones may be options of the first."""
         first, *more = spans(cell)
         return [first, *(f"{first.split(' --')[0]} {span}" if span.startswith("--") else span for span in more)]
 
-    def test_of_the_program(self):
+    def test_of_the_program(self) -> None:
         rows = table(COMMANDS, "Command", "Writes")
         shown = [filled(command).removeprefix("atomfs ") for row in rows for command in self.shown(row[0])]
         self.each(((words, words) for words in shown), self.look)
         self.agrees("the commands of COMMANDS", sorted(shown), sorted(self.due()))
-        named = spans(re.search("The program `atomfs` runs scripts (.*)", README.read_text())[1])
+        named = spans(match_in("The program `atomfs` runs scripts (.*)", README.read_text())[1])
         self.agrees(
             "the commands of README",
             sorted(named),
             sorted({words.split(" ")[0] for words in shown if words[0] != "-"} - {"help"}),
         )
 
-    def look(self, words):
+    def look(self, words: typing.Any) -> None:
         told = {"find": b"atomfs: seed 7\n", "shrink": b"atomfs: calls 1, words 0, where not helped m#1\n"}
         said = told.get(words.split(" ")[0], b"")
         self.same(
@@ -746,7 +750,7 @@ class Commands(Page):
             Outcome(0, self.due().get(words, b"no such command"), said),
         )
 
-    def test_of_examples(self):
+    def test_of_examples(self) -> None:
         """What examples/README.md says that each command prints."""
         kinds = (
             ("examples/run check < (.*)", self.look_at_journal),
@@ -762,7 +766,7 @@ class Commands(Page):
         ]
         self.each(found, lambda look, named, prints: look(named, prints))
 
-    def look_at_journal(self, journal, prints):
+    def look_at_journal(self, journal: str, prints: str) -> None:
         status = re.search(r"status (\d)", prints)
         self.same(
             journal,
@@ -770,51 +774,53 @@ class Commands(Page):
             (int(status[1]) if status else 0, text_of(spans(prints)[0])),
         )
 
-    def look_at_script(self, script, _):
-        status, output, _ = run((ROOT / script).read_bytes(), "run")
+    def look_at_script(self, script: str, _: str) -> None:
+        status, output, _message = run((ROOT / script).read_bytes(), "run")
         self.same(script, (status, model.replayed(output.decode())), (0, None))
 
-    def look_at_crate(self, crate, prints):
+    def look_at_crate(self, crate: str, prints: str) -> None:
         """What it is to print is stored beside it. A line of it ends with what is told, and all do where that is one for all."""
         lines, ends = (ROOT / crate / "stdout").read_text().splitlines(), spans(prints)
         ends = ends if len(ends) > 1 else ends * len(lines)
         self.agrees(crate, ends, [line[-len(end) :] for line, end in zip(lines, ends, strict=True)])
 
     @staticmethod
-    def of_a_shell(pattern):
+    def of_a_shell(pattern: str) -> list[tuple[str, str]]:
         """Rows of the commands of all pages that are of a pattern."""
         commands = sorted({span for page in PAGES for span in spans(prose(page)) if re.fullmatch(pattern, span)})
         return [(command, command) for command in commands]
 
-    def output(self, command):
+    def output(self, command: str) -> bytes:
         """What a command writes, which ends with status 0 and tells nothing else."""
-        end = {"cwd": ROOT, "stdin": subprocess.DEVNULL, "capture_output": True, "timeout": harness.MOST_SECONDS}
-        done = subprocess.run(["bash", "-c", command], **end)
+        words = ["bash", "-c", command]
+        done = subprocess.run(
+            words, cwd=ROOT, stdin=subprocess.DEVNULL, capture_output=True, timeout=harness.MOST_SECONDS
+        )
         self.same(command, (done.returncode, done.stderr if done.returncode else b""), (0, b""))
         return done.stdout
 
-    def test_of_the_model(self):
+    def test_of_the_model(self) -> None:
         self.each(self.of_a_shell(r"python3 tests/model\.py \S+"), self.output)
 
-    def test_of_a_row(self):
+    def test_of_a_row(self) -> None:
         """The command that is told of a row that failed looks at this row, and at none where none is called so."""
         harness.takes_a_process()
         self.each((("a row", "BadHex", "OK"), ("no row", "no word", "OK (skipped=1)")), self.look_at_row)
 
-    def look_at_row(self, row, told):
+    def look_at_row(self, row: str, told: str) -> None:
         case = Explained("test_each_kind")
         case.row = row
-        end = {
-            "cwd": ROOT,
-            "stdin": subprocess.DEVNULL,
-            "capture_output": True,
-            "text": True,
-            "timeout": harness.MOST_SECONDS,
-        }
-        done = subprocess.run(["bash", "-c", case.alone()], **end)
+        done = subprocess.run(
+            ["bash", "-c", case.alone()],
+            cwd=ROOT,
+            stdin=subprocess.DEVNULL,
+            capture_output=True,
+            text=True,
+            timeout=harness.MOST_SECONDS,
+        )
         self.same(case.alone(), (done.returncode, done.stderr.splitlines()[-1]), (0, told))
 
-    def test_examples_run(self):
+    def test_examples_run(self) -> None:
         """The program that is built here runs the worked example, or the script that is named."""
         harness.takes_a_process()
         if "ATOMFS" in os.environ:
@@ -822,13 +828,13 @@ class Commands(Page):
         harness.program()
         self.each(self.of_a_shell(r"examples/run( examples/\S+)?"), self.look_at_run)
 
-    def look_at_run(self, command):
+    def look_at_run(self, command: str) -> None:
         text = self.output(command).decode()
         self.same(command, model.replayed(text), None)
         if command == "examples/run":
             self.same(command, text, HELPED.with_suffix(".text").read_text())
 
-    def test_examples_run_refuses(self):
+    def test_examples_run_refuses(self) -> None:
         """What can be told without the program is told at once."""
         self.each(
             (
@@ -847,7 +853,7 @@ class Commands(Page):
             self.look_at_refusal,
         )
 
-    def test_examples_run_names_commands(self):
+    def test_examples_run_names_commands(self) -> None:
         """Its usage names each command of the program."""
         usage = subprocess.run(
             (ROOT / "examples" / "run", "--help"),
@@ -860,7 +866,7 @@ class Commands(Page):
         commands = re.findall(r"^  (\w+)  ", (DATA / "help" / "atomfs").read_text().partition("Options:")[0], re.M)
         self.agrees("the commands of examples/run", sorted(re.split(r",\s", named)), sorted(commands))
 
-    def look_at_refusal(self, words, given, status, message):
+    def look_at_refusal(self, words: typing.Any, given: bytes, status: int, message: str) -> None:
         done = subprocess.run(
             (ROOT / "examples" / "run", *words),
             cwd=ROOT,
@@ -874,7 +880,7 @@ class Commands(Page):
             (status, message),
         )
 
-    def test_logic_of_the_kit(self):
+    def test_logic_of_the_kit(self) -> None:
         """README names the logic by which all is proved. The letter of the kit before it may be another."""
         if not shutil.which("rt"):
             self.skipTest("the command rt is not on the path")
@@ -938,10 +944,12 @@ class Corners(Page):
         (COMMANDS, "`atomfs tree` still ends with status 0", LEFT, ("tree",), 0, b"tree\ndir /\n"),
     )
 
-    def test_each(self):
+    def test_each(self) -> None:
         self.each(((sentence, page, sentence, *rest) for page, sentence, *rest in self.ROWS), self.look)
 
-    def look(self, page, sentence, given, words, status, part):
+    def look(
+        self, page: pathlib.Path, sentence: str, given: bytes, words: typing.Any, status: int, part: bytes
+    ) -> None:
         self.agrees(page.name, sentence in page.read_text(), True)
         came = run(given, *words)
         self.same(words, (came.status, part in came.output), (status, True))
@@ -983,7 +991,7 @@ class EachCommand(Page):
     )
 
     @classmethod
-    def shown(cls, page):
+    def shown(cls, page: pathlib.Path) -> list[str]:
         text = page.read_text()
         lines = [
             line.removeprefix("$ ")
@@ -997,18 +1005,18 @@ class EachCommand(Page):
         ]
         return list(dict.fromkeys(re.sub(r"^cd \S+ && ", "", line) for line in found))
 
-    def rows(self):
-        commands = {}
+    def rows(self) -> list[tuple[str, str]]:
+        commands: dict[str, pathlib.Path] = {}
         for page in PAGES:
             for command in self.shown(page):
                 commands.setdefault(command, page)
         return [(f"{page.relative_to(ROOT)}: {command}", command) for command, page in commands.items()]
 
-    def test_each(self):
+    def test_each(self) -> None:
         self.each(self.rows(), self.look)
 
-    def look(self, command):
-        kinds = (
+    def look(self, command: str) -> None:
+        kinds: tuple[tuple[str, typing.Callable[..., None]], ...] = (
             (
                 r"(?:atomfs|examples/run(?: --proved)?)((?: -?-?[a-zA-Z0-9.][^<>]*)?)(?: < (\S+))?(?: > \S+)?",
                 self.look_at_program,
@@ -1024,9 +1032,9 @@ class EachCommand(Page):
             return self.same("whether it is there", os.access(ROOT / named[1], wanted), True)
         self.same("whether it is one of others", self.OF_OTHERS.fullmatch(command) is not None, True)
 
-    def look_at_program(self, words, given):
+    def look_at_program(self, typed: str, given: str) -> None:
         """The program takes these words, or words that begin so; what it prints is looked at where a page says so."""
-        words = [self.PUT.get(word, word) for word in shlex.split(filled(words.strip())) if word != ".."]
+        words = [self.PUT.get(word, word) for word in shlex.split(filled(typed.strip())) if word != ".."]
         if not words or (ROOT / words[0]).exists():
             return self.same(
                 "the scripts that are not there", [word for word in words if not (ROOT / word).exists()], []
@@ -1042,14 +1050,18 @@ class EachCommand(Page):
         message = b"" if is_told else outcome.message
         self.same("what it tells", message, b"")
 
-    def look_at_promises(self, command):
+    def look_at_promises(self, command: str) -> None:
         words = [self.PUT.get(word, word) for word in re.sub(r"\[|\]| \.\.", "", command).split(" ")]
         done = subprocess.run(words, cwd=ROOT, capture_output=True, timeout=harness.MOST_SECONDS)
         self.same(command, (done.returncode, done.stderr), (0, b""))
 
-    def look_at_module(self, row, module, words):
+    def look_at_module(self, row: str, module: str, words: typing.Any) -> None:
         """`Commands` runs it."""
         self.same("whether there is such a module", (ROOT / module).is_file(), True)
+
+
+# A module of `specs/`, and a name in it.
+Place = tuple[str, str]
 
 
 class Definitions:
@@ -1057,7 +1069,7 @@ class Definitions:
 
     WORD = re.compile(r"[^\s(){}\[\];,.:λ→∷+=|&×]+")
 
-    def __init__(self, roots):
+    def __init__(self, roots: typing.Iterable[Place]) -> None:
         self.found, seen, left = collections.defaultdict(set), set(), list(roots)
         while left:
             module, name = place = left.pop()
@@ -1074,18 +1086,19 @@ class Definitions:
                 ]
 
     @staticmethod
-    def imports(text):
+    def imports(text: str) -> dict[str, Place]:
         """The module of each name that a text imports, and the name."""
         lists = re.findall(r"use Rattle\.([\w.]+)\.\{(.*)\}", text)
         return {name.strip(): (module, name.strip()) for module, names in lists for name in names.split(",")}
 
     @classmethod
     @functools.cache
-    def file(cls, module):
+    def file(cls, module: str) -> tuple[dict[str, tuple[str, ...]], dict[str, Place]]:
         """The lines of each definition of a file by its name, with the comment above, and what the file imports."""
         crate, _, rest = module.partition(".")
         path = CRATES / crate / f"{rest.replace('.', '/')}.antt"
-        text, definitions = path.read_text() if path.exists() else "", {}
+        text = path.read_text() if path.exists() else ""
+        definitions: dict[str, tuple[str, ...]] = {}
         for paragraph in re.split(r"\n\s*\n", text):
             lines = tuple(line for line in paragraph.splitlines() if is_counted(line))
             head = next((line for line in lines if not line.startswith("--")), "")
@@ -1095,28 +1108,28 @@ class Definitions:
         return definitions, cls.imports(text)
 
     @classmethod
-    def words(cls, lines):
+    def words(cls, lines: typing.Iterable[str]) -> set[str]:
         """The words of a definition but those of comments and the names of fields."""
         code = "\n".join(line for line in lines if not line.strip().startswith("--"))
         return set(cls.WORD.findall(re.sub(r"([{;]\s*)\w+ = ", r"\1", re.sub(r"\.\w+", "", code))))
 
-    def counts(self):
+    def counts(self) -> tuple[int, int, int, int]:
         """How many definitions, files and lines there are, and how many of these lines are comments."""
         each = [lines for found in self.found.values() for lines in found]
         comments = [line for lines in each for line in lines if line.strip().startswith("--")]
         return len(each), len(self.found), sum(map(len, each)), len(comments)
 
 
-def is_counted(line):
+def is_counted(line: str) -> bool:
     """Whether a line of a file of definitions is neither blank nor an import."""
     return bool(line.strip()) and not re.match("(pub )?use ", line)
 
 
-def of_headline(clauses, models):
+def of_headline(clauses: typing.Iterable[str], models: typing.Iterable[Place]) -> Definitions:
     """What some clauses of `Core::run` use, and the models of the values that they speak of."""
     text = source("fs_core/src/events.rt")
     imports = Definitions.imports(text)
-    used = [re.search(rf"ensures {clause} \{{ (.*) \}}", text[text.index("pub fn run(") :])[1] for clause in clauses]
+    used = [match_in(rf"ensures {clause} \{{ (.*) \}}", text[text.index("pub fn run(") :])[1] for clause in clauses]
     return Definitions([*models, *(imports[word] for word in Definitions.words(used) if word in imports)])
 
 
@@ -1130,10 +1143,10 @@ class Believed(Sentences):
         ("fs_places.specs.Plains", "plains"),
     )
 
-    def setUp(self):
+    def setUp(self) -> None:
         self.headline = of_headline(("linearizable", "spelled"), self.MODELS)
 
-    def test_files(self):
+    def test_files(self) -> None:
         """So many lines of each file are used, of those that it has."""
         shown = [(spans(file)[0], lines) for _, file, _, lines in table(READING, "", "File", "Says", "Lines")]
         used = {
@@ -1142,10 +1155,10 @@ class Believed(Sentences):
         self.agrees("the files of the headline", sorted(file for file, _ in shown), sorted(used))
         self.each(((file, file, lines, used[file]) for file, lines in shown), self.look)
 
-    def look(self, file, shown, used):
+    def look(self, file: str, shown: str, used: int) -> None:
         self.agrees(file, shown, f"{used} of {sum(map(is_counted, source(file).splitlines()))}")
 
-    def test_sums(self):
+    def test_sums(self) -> None:
         definitions, files, lines, comments = self.headline.counts()
         self.says(
             READING, f"They use {definitions} definitions of {files} files, {lines} lines, {comments} of them comments"
@@ -1157,10 +1170,10 @@ class Believed(Sentences):
             f"the first clause alone uses {definitions} of {files} files, {lines} lines, {comments} of them comments",
         )
 
-    def test_linearizable(self):
+    def test_linearizable(self) -> None:
         """The functions that have the clause in the words of Herlihy and Wing are those that the page names."""
         named = spans(
-            re.search(r"^The clause `linearizable` of (`Core::run` is also on [^.]*)\.", READING.read_text(), re.M)[1]
+            match_in(r"^The clause `linearizable` of (`Core::run` is also on [^.]*)\.", READING.read_text(), re.M)[1]
         )
         found = [
             function.name
@@ -1172,12 +1185,12 @@ class Believed(Sentences):
             "READING-LIST", sorted(named), sorted(name.replace("AtomFs::close_told", "close_told") for name in found)
         )
 
-    def test_memory(self):
+    def test_memory(self) -> None:
         """The lines of what counts refused memory."""
         lines = (line.strip().removeprefix("ghost ") for line in source("fs_memory/src/memory.rt").splitlines())
         self.says(READING, f"`fs_memory/src/memory.rt` has {sum(map(is_counted, lines))} lines")
 
-    def test_glue(self):
+    def test_glue(self) -> None:
         """Nothing outside the folders `specs/code` uses what is inside."""
         files = set(CRATES.glob("*fs*/specs/**/*.antt"))
         inside = {path for path in files if "code" in path.parts}
@@ -1187,9 +1200,10 @@ class Believed(Sentences):
     TYPE = r"^(?:pub(?:\([^)]*\))? )?(?:struct|enum) (\w+)[^{;(]*(?:\{(.*?)^\}|\((.*?)\);|\{([^\n]*)\})"
     MODEL = r"^impl(?:<.*>)? Model for (\w+)[^{]*\{\n.*?ghost view = \{(.*?)\};"
 
-    def models_of_a_core(self):
+    def models_of_a_core(self) -> dict[str, list[Place]]:
         """What the model of each type of which a core is made uses, with its module, that is in none of the files of the headline."""
-        parts, models = collections.defaultdict(str), {}
+        parts: dict[str, str] = collections.defaultdict(str)
+        models: dict[str, list[Place]] = {}
         for crate in unproved.stands_on("fs_core"):
             for path in (CRATES / crate / "src").rglob("*.rt"):
                 text = re.sub(r"//.*", "", path.read_text())
@@ -1211,7 +1225,7 @@ class Believed(Sentences):
         self.assertGreater(len(seen), 40)
         return {name: models[name] for name in seen if models.get(name)}
 
-    def test_models(self):
+    def test_models(self) -> None:
         """The models of the types of a core that use more than the files of the headline, and by which functions they are tied."""
         rows = table(READING, "Type", "Is seen by", "In", "Which is tied to what a caller gets by")
         shown = sorted((name, spans(seen), spans(file)) for names, seen, file, _ in rows for name in spans(names))
@@ -1226,7 +1240,7 @@ class Believed(Sentences):
         self.agrees("the models", shown, sorted(found))
 
     @staticmethod
-    def size(paths):
+    def size(paths: typing.Iterable[pathlib.Path]) -> tuple[int, int, int]:
         """How many definitions, files and lines there are, but for pages that only hand on or name others."""
         texts = {path: [line for line in path.read_text().splitlines() if is_counted(line)] for path in paths}
         texts = {path: lines for path, lines in texts.items() if not all(line.startswith("pub mod") for line in lines)}
@@ -1234,7 +1248,7 @@ class Believed(Sentences):
         definitions = sum(len(set(Definitions.file(module)[0].values())) for module in modules)
         return definitions, len(texts), sum(map(len, texts.values()))
 
-    def test_sizes(self):
+    def test_sizes(self) -> None:
         """What need not be read is about as long as the page says: each number is right within a twentieth."""
         specs, proofs, bodies = (
             list(CRATES.glob(pattern))
@@ -1257,8 +1271,8 @@ class Believed(Sentences):
         )
         self.each(((name, name, *row) for name, *row in rows), self.look_at_size)
 
-    def look_at_size(self, name, pattern, found):
-        shown = tuple(map(number, re.search(pattern, READING.read_text()).groups()))
+    def look_at_size(self, name: str, pattern: str, found: tuple[int, ...]) -> None:
+        shown = tuple(map(number, match_in(pattern, READING.read_text()).groups()))
         self.agrees(name, shown, tuple(one if abs(one - due) <= due / 20 else due for one, due in zip(shown, found)))
 
 
@@ -1267,25 +1281,25 @@ NO_CODE = {".rt": r"//.*|^\s*(pub )?(ghost )?use [^;]*;", ".antt": r"--.*|^(pub 
 
 
 @functools.cache
-def text_at(path):
+def text_at(path: pathlib.Path) -> str:
     return path.read_text(errors="replace")
 
 
 @functools.cache
-def code_at(path):
+def code_at(path: pathlib.Path) -> str:
     return re.sub(NO_CODE[path.suffix], "", text_at(path), flags=re.M)
 
 
-def product(*parts):
+def product(*parts: str) -> list[pathlib.Path]:
     """The files of the product's crates in these folders."""
     return [path for crate in CRATES.glob("*fs*") for part in parts for path in (crate / part).rglob("*.*t")]
 
 
-def is_example(path):
+def is_example(path: pathlib.Path) -> re.Match[str] | None:
     return re.match(r"(tests|examples|Examples)\b", path.relative_to(CRATES).parts[2])
 
 
-def beside():
+def beside() -> list[pathlib.Path]:
     """The files beside the product that a change of it may touch: programs that are none of it, tests, benches, and what stands on the library for C."""
     crates = [path for crate in CRATES.iterdir() if "fs" not in crate.name for path in (crate / "src").rglob("*.rt")]
     folders = (
@@ -1311,7 +1325,7 @@ def beside():
 WORDS = {"ListAfter": "list"}
 
 
-def calls():
+def calls() -> dict[str, str]:
     """The calls by their words, with their names as constructors."""
     return {
         WORDS.get(name, name.lower()): name
@@ -1320,7 +1334,7 @@ def calls():
 
 
 @functools.cache
-def naming_call(call):
+def naming_call(call: str) -> dict[str, list[pathlib.Path]]:
     """The files that a further call like this one touches: those that name it as a constructor, and beside the product those that have its word."""
     name = calls()[call]
     parts = {"source": "src", "definitions": "specs", "proofs": "proofs"}
@@ -1332,7 +1346,7 @@ def naming_call(call):
     return found | {"beside the product": [path for path in beside() if has_word.search(text_at(path))]}
 
 
-def limits():
+def limits() -> dict[str, list[int]]:
     """The limits by their constants, and those that each set of limits has, of trees and of texts, which are three numbers each."""
     of_texts = (
         "fs_words/src/limits.rt",
@@ -1356,7 +1370,7 @@ def limits():
 
 
 @functools.cache
-def naming_limit(limit):
+def naming_limit(limit: str) -> dict[str, list[pathlib.Path]]:
     """The files that a change of a limit touches: those that name it, and those where its number is written out."""
     found = {"named": [path for path in product("src", "specs") if re.search(rf"\b{limit}\b", code_at(path))]}
     files = dict.fromkeys([*product("src", "specs", "proofs"), *beside(), *PAGES, *EXPLAINED.iterdir()])
@@ -1367,7 +1381,7 @@ def naming_limit(limit):
     return found
 
 
-def printed(found):
+def printed(found: typing.Mapping[str, typing.Sequence[pathlib.Path]]) -> str:
     """Lists of files under their heads."""
     return "".join(
         f"{head}: {len(paths)} files\n" + "".join(f"  {path.relative_to(ROOT)}\n" for path in sorted(paths))
@@ -1466,10 +1480,10 @@ class Touched(Sentences):
         ),
     )
 
-    def test_known_places(self):
+    def test_known_places(self) -> None:
         self.each(((f"{what} {file}", what, file) for what, file in self.HAVE), self.look)
 
-    def look(self, what, file):
+    def look(self, what: str, file: str) -> None:
         found = naming_call(what) if what in calls() else naming_limit(what)
         self.same(
             f"{file} is touched by a change of {what}",
@@ -1477,7 +1491,7 @@ class Touched(Sentences):
             True,
         )
 
-    def test_counts(self):
+    def test_counts(self) -> None:
         """How many files of the product name a call of each form."""
         node, entry, pair = (
             sum(len(naming_call(call)[part]) for part in ("source", "definitions", "proofs"))
@@ -1488,10 +1502,10 @@ class Touched(Sentences):
             f"a node touches {node} files of the product (`truncate`), an entry {entry} (`rmdir`), a pair {pair} (`rename`)",
         )
 
-    def test_every_call(self):
+    def test_every_call(self) -> None:
         """docs/CHANGING.md lists the sources that have a case for each call."""
         found = set.intersection(*(set(naming_call(call)["source"]) for call in calls()))
-        listed = re.search(r"has a case in each of ([^.]*(?:\.rt[^.]*)*)\.\s", CHANGING.read_text())[1]
+        listed = match_in(r"has a case in each of ([^.]*(?:\.rt[^.]*)*)\.\s", CHANGING.read_text())[1]
         shown, folder = [], ""
         for span in spans(listed):
             folder = span if span.endswith("/") else folder
@@ -1502,7 +1516,7 @@ class Touched(Sentences):
             sorted(str(path.relative_to(CRATES)) for path in found),
         )
 
-    def test_code_alone(self):
+    def test_code_alone(self) -> None:
         """A comment and an import name nothing, nor does an example."""
         texts = (
             "//! Call::Rename\n",
@@ -1523,7 +1537,7 @@ class Touched(Sentences):
         ]
         self.agrees("examples", [path for path in files if path.stem.lower() == "examples"], [])
 
-    def test_commands(self):
+    def test_commands(self) -> None:
         """Those that the pages name, and words that are none."""
         commands = Commands.of_a_shell(r"python3 tests/documents\.py --\w+ \w+")
         self.same("commands", len(commands) >= 2, True)
@@ -1532,7 +1546,7 @@ class Touched(Sentences):
             (("--names", "--names", "renam", calls()), ("--limit", "--limit", "NODES", limits())), self.look_at_refusal
         )
 
-    def asked(self, *words):
+    def asked(self, *words: str) -> tuple[int, str, str]:
         done = subprocess.run(
             ["python3", "tests/documents.py", *words],
             cwd=ROOT,
@@ -1540,17 +1554,15 @@ class Touched(Sentences):
             text=True,
             timeout=harness.MOST_SECONDS,
         )
-        return Outcome(done.returncode, done.stdout, done.stderr)
+        return done.returncode, done.stdout, done.stderr
 
-    def look_at_command(self, command):
+    def look_at_command(self, command: str) -> None:
         _, _, option, word = command.split(" ")
         found = naming_call(word) if option == "--names" else naming_limit(word)
-        self.same(command, self.asked(option, word), Outcome(0, printed(found), ""))
+        self.same(command, self.asked(option, word), (0, printed(found), ""))
 
-    def look_at_refusal(self, option, word, known):
-        self.same(
-            f"{option} {word}", self.asked(option, word), Outcome(2, "", f"{word} is none of {', '.join(known)}\n")
-        )
+    def look_at_refusal(self, option: str, word: str, known: typing.Iterable[str]) -> None:
+        self.same(f"{option} {word}", self.asked(option, word), (2, "", f"{word} is none of {', '.join(known)}\n"))
 
 
 class Guarantees(Sentences):
@@ -1558,21 +1570,21 @@ class Guarantees(Sentences):
 
     PAGE = DOCS / "PROMISES.md"
     # How many wrong bodies stand in all crates at most, in one at most, and in one that has some at least.
-    MOST_EDITS, MOST_OF_A_CRATE, LEAST_OF_A_CRATE = 45, 9, 3
+    MOST_EDITS, MOST_OF_A_CRATE, LEAST_OF_A_CRATE = 46, 9, 3
 
-    def test_promises(self):
+    def test_promises(self) -> None:
         """Each crate of the product has a row in the table of what a user relies on it for, with functions and clauses of it."""
         rows = [row for rows in tables(self.PAGE, "Crate", "Main promise", "Carried by") for row in rows]
         self.agrees("its crates", sorted(crate for row in rows for crate in spans(row[0])), sorted(promises.product()))
         self.each(((row[0], spans(row[0])[0], spans(row[2])) for row in rows), self.look_at_crate)
 
-    def look_at_crate(self, crate, words):
+    def look_at_crate(self, crate: str, words: typing.Any) -> None:
         of = {}
         for function in promises.public(CRATES / crate):
             of[function.name] = of[f"{pathlib.Path(function.file).stem}::{function.name}"] = [
                 clause.name for clause in function.ensures
             ]
-        groups = []
+        groups: list[tuple[str, list[str]]] = []
         for word in words:
             if word in of or not groups:
                 groups.append((word, []))
@@ -1585,14 +1597,14 @@ class Guarantees(Sentences):
                 [],
             )
 
-    def test_wrong_bodies(self):
+    def test_wrong_bodies(self) -> None:
         """Each has an edit in its crate, a function of a check that is called, or a test in Python, behind the name of the crate or file."""
         rows = table(self.PAGE, "A body that", "Is refused by")
         self.same("how many there are", len(rows), 30)
         self.each(((body, spans(refused)) for body, refused in rows), self.look_at_body)
 
-    def look_at_body(self, names):
-        place, missing, named = None, [], 0
+    def look_at_body(self, names: str) -> None:
+        place, missing, named = "", list[str](), 0
         for name in names:
             if (CRATES / name).is_dir() or (ROOT / name).is_file():
                 place = name
@@ -1603,7 +1615,7 @@ class Guarantees(Sentences):
         self.same("whether one is named", named > 0, True)
 
     @staticmethod
-    def is_there(place, name):
+    def is_there(place: str, name: str) -> bool:
         if place.endswith(".py"):
             loader = unittest.TestLoader()
             found = loader.loadTestsFromName(f"{pathlib.Path(place).stem}.{name}")
@@ -1615,7 +1627,7 @@ class Guarantees(Sentences):
             return re.search(rf"\bfn {function}\b", texts.get(module, "")) is not None and named > 1
         return (CRATES / place / "must-fail" / f"{name}.edit").exists()
 
-    def test_budget(self):
+    def test_budget(self) -> None:
         self.says(
             DOCS / "DECISIONS.md",
             f"at most {self.MOST_EDITS}, at most {self.MOST_OF_A_CRATE} in a crate, and three or none",
@@ -1634,7 +1646,7 @@ class Listed(Page):
     """What tables of pages list is what the sources have."""
 
     @staticmethod
-    def product():
+    def product() -> dict[str, list[str]]:
         """The crates of the product, and which of them each names."""
         lines = (line.split(":") for line in (ROOT / "crates.txt").read_text().splitlines() if not line.startswith("#"))
         named = {crate.split()[0]: below.split() for crate, below in lines}
@@ -1644,7 +1656,7 @@ class Listed(Page):
             if re.match("fs_|atomfs", crate)
         }
 
-    def test_libraries(self):
+    def test_libraries(self) -> None:
         """Each crate names the libraries that crates.txt lists for it."""
         for line in (ROOT / "crates.txt").read_text().splitlines():
             crate, _, libraries = line.partition(":")
@@ -1657,22 +1669,22 @@ class Listed(Page):
                 words = set(re.findall(r"\w+", "\n".join(path.read_text() for path in files)))
                 self.agrees(crate, [name for name in libraries.split() if name not in words], [])
 
-    def test_trusted_libraries(self):
+    def test_trusted_libraries(self) -> None:
         """docs/TRUST.md has each library of the kit that a crate names, but the core library."""
         lines = [line.split(":") for line in (ROOT / "crates.txt").read_text().splitlines() if not line.startswith("#")]
         used = (
             {name for _, below in lines for name in below.split()} - {crate.split()[0] for crate, _ in lines} - {"core"}
         )
-        said = re.search(r"^- The statements of the kit's crates .*", (DOCS / "TRUST.md").read_text(), re.M)[0]
+        said = match_in(r"^- The statements of the kit's crates .*", (DOCS / "TRUST.md").read_text(), re.M)[0]
         self.agrees("the kit's crates", sorted(spans(said)), sorted(used))
 
     @staticmethod
-    def rooms():
+    def rooms() -> dict[str, list[str]]:
         """The rooms of docs/ARCHITECTURE.md from the top down, each with its crates as they come in the list."""
         rooms = [room.splitlines() for room in blocks(DOCS / "ARCHITECTURE.md")[1].split("\n\n")]
         return {name: [line.split()[0] for line in crates] for name, *crates in rooms}
 
-    def test_rooms(self):
+    def test_rooms(self) -> None:
         """Each crate of the product is in a room of the drawing. In the list it comes above all that it uses, and none of these is in a room beside."""
         drawing, _ = blocks(DOCS / "ARCHITECTURE.md")
         rows = [{cell.strip(" +-") for cell in line.split("|")} - {""} for line in drawing.splitlines()]
@@ -1687,7 +1699,7 @@ class Listed(Page):
         pairs = [{room_of[crate], room_of[one]} for crate, one in used if room_of[crate] != room_of[one]]
         self.agrees("rooms that use one beside them", [], [pair for pair in pairs for row in rows if pair <= row])
 
-    def test_laws(self):
+    def test_laws(self) -> None:
         """docs/MACHINE.md has each law of the machine and of its runs, by the name of the function that states it."""
         laws = [
             name
@@ -1697,7 +1709,7 @@ class Listed(Page):
         shown = [name for names, _ in table(DOCS / "MACHINE.md", "Law", "Says") for name in spans(names)]
         self.agrees("the laws", sorted(shown), sorted(laws))
 
-    def test_numbers_of_errors(self):
+    def test_numbers_of_errors(self) -> None:
         """The numbers of errors, and of the kinds of a verdict."""
         cells = [cell for row in table(SPECIFICATION, "Number", "Error", "Number", "Error") for cell in row]
         errors = sorted((int(value), error) for value, error in zip(cells[::2], cells[1::2]) if value)
@@ -1709,7 +1721,7 @@ class Listed(Page):
         ]
         self.agrees("kinds", kinds, variants("fs_timeline/src/verdict.rt", "FaultKind"))
 
-    def test_messages(self):
+    def test_messages(self) -> None:
         """The statuses at which something is told, and each message that the sources have."""
         rows = table(COMMANDS, "Status", "Message", "When")
         statuses = re.findall(r"^  (\d)  ", (DATA / "help" / "atomfs").read_text(), re.M)
@@ -1720,13 +1732,13 @@ class Listed(Page):
             for crate in ("fs_verdict", "fs_threads", "fs_trace", "fs_find", "fs_draw", "fs_replay")
         )
         told = re.findall(r'#\[error\("(?!CALL is )([^"]*\w \w[^"]*|full)"', sources) + re.findall(
-            r'"atomfs: ([^"]*\bhas it\b[^"]*)"', source("fs_command/src/status.rt")
+            r'"atomfs: ([^"]*\bha(?:s|ve) it\b[^"]*)"', source("fs_command/src/status.rt")
         )
         messages = [re.sub(r"\{\w*\}", "N", message) for message in told]
         said = {span for _, message, _ in rows for span in spans(message)}
         self.agrees("the messages", sorted(said - {"line N: KIND"}), sorted(messages))
 
-    def test_library(self):
+    def test_library(self) -> None:
         """The functions of embed/atomfs.h, and its statuses after which something has changed."""
         calls = [name for _, cell in table(EMBEDDING, "To", "Call") for name in spans(cell)]
         self.agrees(
@@ -1747,7 +1759,7 @@ class Listed(Page):
 class Numbers(Sentences):
     """Numbers in sentences and tables of pages, and where else they stand."""
 
-    def test_limits_of_trees(self):
+    def test_limits_of_trees(self) -> None:
         rows = {
             spans(name)[0]: sets for _, *sets, name in table(SPECIFICATION, "What", "`V1`", "`V2`", "`V3`", "Named by")
         }
@@ -1783,9 +1795,9 @@ class Numbers(Sentences):
             for which, sets in (("", first), ("", second), ("_V3", third))
         }
         due = {**nodes, "ATOMFS_LIST_LIMIT": names, "ATOMFS_READ_LIMIT": max(reads)}
-        self.agrees("embed/atomfs.h", {name: number(re.search(f"#define {name} (.*)", header)[1]) for name in due}, due)
+        self.agrees("embed/atomfs.h", {name: number(match_in(f"#define {name} (.*)", header)[1]) for name in due}, due)
 
-    def test_limits_of_texts(self):
+    def test_limits_of_texts(self) -> None:
         scripts, (nodes, third_nodes) = constants("fs_script/src/limits.rt"), limits()["node_limit"][1:]
         (first_text, text, third_text), (first_calls, calls, third_calls) = harness.limits_of_texts().values()
         self.agrees("the first two sets", (first_text, first_calls), (text, calls))
@@ -1816,7 +1828,7 @@ class Numbers(Sentences):
         self.each(((sentence, FORMATS, sentence) for sentence in sentences), self.says)
         self.says(EXPLAINED / "TooLarge", f"at most {events:,} events are given")
 
-    def test_counts(self):
+    def test_counts(self) -> None:
         """How many there are of what pages count."""
         inputs = [path for path in (DATA / "worked").rglob("*") if path.suffix in (".script", ".journal")]
         stack = (ROOT / "tests" / "limits.py").read_text()
@@ -1827,11 +1839,11 @@ class Numbers(Sentences):
                 EMBEDDING,
                 f"`embed/checks.c`, {len((ROOT / 'embed' / 'checks.c').read_text().splitlines())} lines that are not proved",
             ),
-            (COMMANDS, f"It needs a stack of {re.search(r'^STACK = ([0-9]+) . 1024$', stack, re.M)[1]} KiB"),
+            (COMMANDS, f"It needs a stack of {match_in(r'^STACK = ([0-9]+) . 1024$', stack, re.M)[1]} KiB"),
         )
         self.each(((page.stem, page, sentence) for page, sentence in rows), self.says)
 
-    def test_figures(self):
+    def test_figures(self) -> None:
         """The figures of docs/CHOOSING.md are those of docs/PERFORMANCE.md."""
         heads = (
             (
@@ -1844,7 +1856,7 @@ class Numbers(Sentences):
             known = [row[: len(here)] for row in table(PERFORMANCE, *there)]
             self.same("figures that it has not", [row for row in table(CHOOSING, *here) if row not in known], [])
 
-    def test_ratios(self):
+    def test_ratios(self) -> None:
         """README's ratios are those of docs/PERFORMANCE.md, the least and the most of times, to a tenth."""
         rows = {
             (spans(job)[0], measure): " ".join(ratios)
@@ -1860,9 +1872,10 @@ class Numbers(Sentences):
         self.says(README, f"two make {throughput['2']} times as many calls, four {throughput['4']} times")
 
 
-def main(option, word):
+def main(option: str, word: str) -> None:
     """Prints the files that a further call like the named one touches (--names CALL), or a change of a limit (--limit NAME)."""
-    known, naming = (calls(), naming_call) if option == "--names" else (limits(), naming_limit)
+    known = list(calls()) if option == "--names" else list(limits())
+    naming = naming_call if option == "--names" else naming_limit
     if word not in known:
         print(f"{word} is none of {', '.join(known)}", file=sys.stderr)
         sys.exit(2)

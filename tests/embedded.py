@@ -6,6 +6,7 @@ programs of examples/embed in C, Rust and Python, and the examples of docs/EMBED
 With LIBATOMFS the programs of this folder take another library: its shared object, beside which the archive stands.
 """
 import contextlib
+import importlib
 import itertools
 import pathlib
 import random
@@ -15,6 +16,7 @@ import subprocess
 import sys
 import tarfile
 import tempfile
+import typing
 import unittest
 
 import atomfs
@@ -26,7 +28,7 @@ import histories
 from worked import KINDS
 
 sys.path.insert(0, str(harness.ROOT / "bench"))
-import counting
+counting: typing.Any = importlib.import_module("counting")
 
 HEADER = harness.ROOT / "embed" / "atomfs.h"
 TESTS = harness.ROOT / "tests"
@@ -72,13 +74,13 @@ PIECES = [
 PATHS = 2_000
 
 
-def built():
+def built() -> pathlib.Path:
     """Where the shared object is, once it is known that it may be looked at."""
     harness.library()
     return pathlib.Path(harness.found("LIBATOMFS", "dist/lib/libatomfs.so", "embed/build builds it"))
 
 
-def said(*words, seconds=harness.MOST_SECONDS):
+def said(*words: typing.Any, seconds: float = harness.MOST_SECONDS) -> str:
     """What a program says, and its status."""
     done = subprocess.run(words, capture_output=True, text=True, timeout=seconds)
     return f"{done.stdout}{done.stderr}status {done.returncode}"
@@ -87,7 +89,12 @@ def said(*words, seconds=harness.MOST_SECONDS):
 class Programs(harness.Case):
     """A program of this folder in C over the library, which says one line where all is as it is to be."""
 
-    SECONDS = harness.MOST_SECONDS
+    # The source of the program, and the line that it says; where they are, and the library.
+    SOURCE: str
+    WELL: str
+    archive: pathlib.Path
+    folder: str
+    SECONDS: int = harness.MOST_SECONDS
     SANITIZED = "-g", "-fno-sanitize-recover=all"
     # No error, and no block that is lost or still in use.
     MEMCHECK = (
@@ -100,11 +107,13 @@ class Programs(harness.Case):
     )
 
     @classmethod
-    def setUpClass(cls):
+    def setUpClass(cls) -> None:
         cls.archive = built().with_name("libatomfs.a")
         cls.folder = cls.enterClassContext(tempfile.TemporaryDirectory())
 
-    def made(self, name, compiler, *flags, archive=None):
+    def made(
+        self, name: str, compiler: tuple[str, ...], *flags: typing.Any, archive: pathlib.Path | str | None = None
+    ) -> str:
         """The program that a compiler makes of the source and the library."""
         if shutil.which(compiler[0]) is None:
             self.skipTest(f"{compiler[0]} is not on the path")
@@ -126,10 +135,10 @@ class Programs(harness.Case):
         subprocess.run(words, check=True)
         return program
 
-    def well(self, name, *words):
+    def well(self, name: str, *words: typing.Any) -> None:
         self.same(name, said(*words, seconds=self.SECONDS), f"{self.WELL}\nstatus 0")
 
-    def language(self, name, compiler):
+    def language(self, name: str, compiler: tuple[str, ...]) -> None:
         self.well(name, self.made(name, compiler))
 
 
@@ -138,17 +147,17 @@ class Typed(Programs):
 
     SOURCE, WELL = "typed.c", "typed calls: as they are to be"
 
-    def test_languages(self):
+    def test_languages(self) -> None:
         self.each(((name, name, compiler) for name, compiler in LANGUAGES), self.language)
 
-    def test_sanitized(self):
+    def test_sanitized(self) -> None:
         self.well(
             "typed.c with sanitizers",
             self.made("sanitized", LANGUAGES[0][1], *self.SANITIZED, "-fsanitize=address,undefined"),
         )
 
     @unittest.skipIf(shutil.which("valgrind") is None, "valgrind is not on the path")
-    def test_memcheck(self):
+    def test_memcheck(self) -> None:
         self.well("typed.c under valgrind", *self.MEMCHECK, self.made("checked", LANGUAGES[0][1], "-g"))
 
 
@@ -160,12 +169,12 @@ class Shared(Programs):
     # valgrind runs one thread at a time: a thread that never sleeps would keep the others from their turn for minutes.
     IN_TURN = "--fair-sched=yes"
 
-    def language(self, name, compiler):
+    def language(self, name: str, compiler: tuple[str, ...]) -> None:
         """All 1,000 calls, cancellations and signals by the first compiler, a fifth of them by each other one."""
         calls = () if (compiler[0], compiler[1].removeprefix("-std=")) == COMPILERS[0] else ("200",)
         self.well(name, self.made(name, compiler), *calls)
 
-    def test_languages(self):
+    def test_languages(self) -> None:
         self.each(
             (
                 (f"{compiler} {standard}", f"{compiler}_{standard}", (compiler, f"-std={standard}"))
@@ -174,23 +183,23 @@ class Shared(Programs):
             self.language,
         )
 
-    def counted(self, name, *flags):
+    def counted(self, name: str, *flags: str) -> str:
         """With embed/shared.c compiled into the program: of the library the same functions give way to those."""
         weak = f"{self.folder}/weak.a"
         subprocess.run(("objcopy", "--weaken", self.archive, weak), check=True)
         return self.made(name, LANGUAGES[1][1], "-DCOUNTED", *flags, archive=weak)
 
-    def sanitized(self, sanitizer):
+    def sanitized(self, sanitizer: str) -> None:
         self.well(
             f"shared.c with the sanitizer of {sanitizer}",
             self.counted(sanitizer, *self.SANITIZED, f"-fsanitize={sanitizer}"),
         )
 
-    def test_sanitized(self):
+    def test_sanitized(self) -> None:
         self.each(((sanitizer, sanitizer) for sanitizer in ("thread", "address,undefined")), self.sanitized)
 
     @unittest.skipIf(shutil.which("valgrind") is None, "valgrind is not on the path")
-    def test_valgrind(self):
+    def test_valgrind(self) -> None:
         """Helgrind sees what threads do in the proved functions too: nothing but under the lock."""
         program = self.counted("checked", "-g")
         for name, words, calls in (
@@ -206,16 +215,17 @@ class Growth(Programs):
 
     SOURCE, KEPT, ROUNDS, SMALL, LARGE, MOST = "../bench/growth.c", 200, 200, 1_000, 8_000, 1.5
 
-    def cost(self, program, nodes):
+    def cost(self, program: str, nodes: int) -> float:
         """The instructions of a round of calls, and of forgetting as many calls as it has."""
         none, some = (
             counting.counted(program, [str(nodes), str(self.KEPT), str(rounds)], b"").instructions
             for rounds in (0, self.ROUNDS)
         )
-        return (some - none) / self.ROUNDS
+        each: float = (some - none) / self.ROUNDS
+        return each
 
     @unittest.skipIf(shutil.which("valgrind") is None, "valgrind is not on the path")
-    def test_forgetting(self):
+    def test_forgetting(self) -> None:
         program = self.made("growth", LANGUAGES[0][1], "-O2")
         small, large = (self.cost(program, nodes) for nodes in (self.SMALL, self.LARGE))
         self.assertLess(large, self.MOST * small)
@@ -226,10 +236,10 @@ class Trees(Programs):
 
     SOURCE, WELL = "../bench/trees.c", "sandbox: 11471749041631745739\nshapes: 1197031400585579595"
 
-    def test_digests(self):
+    def test_digests(self) -> None:
         self.well("the jobs in small", self.made("trees", LANGUAGES[0][1], "-O2"))
 
-    def test_words(self):
+    def test_words(self) -> None:
         program = self.made("trees", LANGUAGES[0][1], "-O2")
         for words in (("sandbox",), ("many", "1"), ("sandbox", "one"), ("sandbox", ""), ("sandbox", "1", "2")):
             self.same(words, said(program, *words), "trees: no word, or a job and a number\nstatus 2")
@@ -238,10 +248,10 @@ class Trees(Programs):
 class Progress(harness.Case):
     """Drawn calls of several seats, left standing half-way, return by `step_any` alone: where a call is under way it steps one that goes on."""
 
-    def setUp(self):
+    def setUp(self) -> None:
         self.library, self.under_way, self.waits = harness.library(), 0, 0
 
-    def look(self, number):
+    def look(self, number: int) -> None:
         draw = random.Random(number)
         with atomfs.Tree(self.library, 1_000) as tree:
             run = events.Run(tree, drawn.moving(draw) if number % 2 else drawn.exchanging(draw))
@@ -254,7 +264,7 @@ class Progress(harness.Case):
             self.waits += len(waits)
             under_way = set(run.under_way)
             came = [tree.step_any() for _ in range(STEPS * len(under_way))] + [tree.step_any()]
-            returned = [seat for seat, did, _ in came if did == atomfs.Did.RETURN]
+            returned: list[typing.Any] = [seat for seat, did, _ in came if did == atomfs.Did.RETURN]
             self.same(f"the seats of run {number} whose calls return", sorted(returned), sorted(under_way))
             going = list(itertools.takewhile(lambda step: step[1] != atomfs.Did.IDLE, came))
             self.same(
@@ -266,13 +276,13 @@ class Progress(harness.Case):
             self.same("the verdict", self.library.check(tree.journal()), b"lawful\n")
 
     @staticmethod
-    def is_waiting(tree, run, seat):
+    def is_waiting(tree: atomfs.Tree, run: typing.Any, seat: int) -> bool:
         did = tree.step(seat)[0]
         if did == atomfs.Did.RETURN:
             run.under_way.remove(seat)
-        return did == atomfs.Did.WAIT
+        return bool(did == atomfs.Did.WAIT)
 
-    def test_calls_return(self):
+    def test_calls_return(self) -> None:
         self.each(((f"run_{number}", number) for number in range(RUNS)), self.look)
         self.assertGreater(self.waits, 0)
         self.assertGreater(self.under_way, self.waits)
@@ -281,7 +291,7 @@ class Progress(harness.Case):
 class Paths(harness.Case):
     """`atomfs_check_path` says of drawn bytes what tests/grammar.py says, by each set of limits; and a call on them is refused for its path exactly where it does."""
 
-    def look(self, number):
+    def look(self, number: int) -> None:
         draw = random.Random(number)
         path = b"".join(draw.choice(PIECES) for _ in range(draw.randrange(1, 6)))
         for version, limits in ((1, grammar.V1), (2, grammar.V2), (3, grammar.V3)):
@@ -291,11 +301,11 @@ class Paths(harness.Case):
             except grammar.Fault as fault:
                 wanted = KINDS[fault.kind.replace("BadPath ", "Path")]
             self.came.add(wanted)
-            self.same(f"{path} by version {version}", self.library.check_path(path, version), wanted)
+            self.same(f"{path!r} by version {version}", self.library.check_path(path, version), wanted)
             refused = atomfs.Status.OK if wanted == atomfs.Status.OK else atomfs.Status.BAD_PATH
-            self.same(f"a stat of {path} by version {version}", self.refused(path, version), refused)
+            self.same(f"a stat of {path!r} by version {version}", self.refused(path, version), refused)
 
-    def refused(self, path, version):
+    def refused(self, path: bytes, version: int) -> object:
         """Why a stat of a path does not begin, if it does not."""
         with atomfs.Tree(self.library, 2, version) as tree, contextlib.suppress(OSError):
             try:
@@ -304,8 +314,9 @@ class Paths(harness.Case):
                 return error.status
         return atomfs.Status.OK
 
-    def test_drawn(self):
-        self.library, self.came = harness.library(), set()
+    def test_drawn(self) -> None:
+        self.library = harness.library()
+        self.came: set[atomfs.Status] = set()
         self.each(((f"path_{number}", number) for number in range(PATHS)), self.look)
         self.same(
             "the statuses that came",
@@ -314,9 +325,11 @@ class Paths(harness.Case):
         )
 
 
-def refused(came):
+def refused(came: harness.Outcome) -> tuple[atomfs.Status, int]:
     """The status and the line of what the program says of its input."""
-    line, kind = re.match(rb"atomfs: line (\d+): (\w+).*\n", came.message).groups()
+    said = re.match(rb"atomfs: line (\d+): (\w+).*\n", came.message)
+    assert said
+    line, kind = said.groups()
     return KINDS[kind.decode()], int(line)
 
 
@@ -332,7 +345,7 @@ class Tools(harness.Case):
     )
     WORDS = "BadHeader", "BadPath", "TrailingSlash", "OutOfMemory", "BadStart", "BeginTwice", "WrongReply"
 
-    def look(self, words, given, ask):
+    def look(self, words: typing.Sequence[str], given: bytes, ask: typing.Callable[[], object]) -> None:
         came = harness.run(given, *words)
         self.same(
             words,
@@ -340,7 +353,7 @@ class Tools(harness.Case):
             came.output if came.status in (0, 1) and came.output else refused(came),
         )
 
-    def rows(self):
+    def rows(self) -> typing.Iterator[tuple[typing.Any, ...]]:
         library = harness.library()
         runs = harness.DATA / "worked" / "runs"
         texts = {name: (runs / f"{name}.script").read_bytes() for name in self.SCRIPTS}
@@ -357,8 +370,15 @@ class Tools(harness.Case):
                     "trace",
                     "--every",
                     *words,
-                ), text, lambda text=text, by=by: library.trace(text, *by, every=1)
+                ), text, lambda text=text, by=by: library.trace(
+                    text, *by, every=1
+                )  # type: ignore[misc]
                 yield f"draw {name} {words}", ("draw", *words), text, lambda text=text, by=by: library.draw(text, *by)
+                yield f"page {name} {words}", (
+                    "draw",
+                    "--html",
+                    *words,
+                ), text, lambda text=text, by=by: library.page(text, *by)
                 if words:
                     yield f"schedule {name} {words}", (
                         "schedule",
@@ -375,10 +395,11 @@ class Tools(harness.Case):
             "no journal": journal + b"commit 1 2\n",
         }.items():
             yield f"draw {name}", ("draw",), text, lambda text=text: library.draw(text)
+            yield f"page {name}", ("draw", "--html"), text, lambda text=text: library.page(text)
         for word in self.WORDS:
             yield f"explain {word}", ("explain", word), b"", lambda word=word: library.explain(word.encode())
 
-    def test_as_the_program(self):
+    def test_as_the_program(self) -> None:
         self.each(self.rows(), self.look)
 
 
@@ -389,7 +410,7 @@ class Histories(harness.Case):
     FOUND = {b"none": atomfs.Found.NO_ORDER, b"fault": atomfs.Found.NO_HISTORY, b"unknown": atomfs.Found.UNKNOWN}
     DRAWN, LIMITS = 100, (1, 2, 3, 10_000_000)
 
-    def written(self, given, limit, tell, words):
+    def written(self, given: bytes, limit: int, tell: typing.Any, words: typing.Sequence[str]) -> object:
         """What the program writes, as the library is to answer it."""
         came = harness.run(given, "linearize", "--limit", str(limit), *words)
         if not came.output:
@@ -402,12 +423,16 @@ class Histories(harness.Case):
         self.came.add((tell, found))
         return found, came.output + (re.sub(rb"(?m)^atomfs: ", b"", came.message) if tell == atomfs.Tell.WORDS else b"")
 
-    def look(self, given, limit):
+    def look(self, given: bytes, limit: int) -> None:
         for tell, words in self.FORMS:
-            told = harness.told(lambda history, tell=tell: harness.library().linearize(history, tell, limit), given)
-            self.same(f"{tell!r} of {given}", told, self.written(given, limit, tell, words))
 
-    def rows(self):
+            def ask(history: bytes, tell: atomfs.Tell = tell) -> object:
+                return harness.library().linearize(history, tell, limit)
+
+            told = harness.told(ask, given)
+            self.same(f"{tell!r} of {given!r}", told, self.written(given, limit, tell, words))
+
+    def rows(self) -> typing.Iterator[tuple[typing.Any, ...]]:
         drawn = (histories.history(random.Random(seed)) for seed in range(self.DRAWN))
         texts = {name: given for name, (given, _) in histories.ROWS.items()}
         texts |= {
@@ -416,9 +441,9 @@ class Histories(harness.Case):
         }
         return ((f"{name} at {limit}", given, limit) for name, given in texts.items() for limit in self.LIMITS)
 
-    def test_as_the_program(self):
+    def test_as_the_program(self) -> None:
         harness.library()
-        self.came = set()
+        self.came: set[object] = set()
         self.each(self.rows(), self.look)
         self.same("what came", self.came, set(itertools.product((tell for tell, _ in self.FORMS), atomfs.Found)))
 
@@ -426,25 +451,25 @@ class Histories(harness.Case):
 class Built(harness.Case):
     """The header, the names that the library exports, and the archive."""
 
-    def header(self, compiler):
+    def header(self, compiler: tuple[str, ...]) -> None:
         if shutil.which(compiler[0]) is not None:
             subprocess.run((*compiler, *STRICT, "-fsyntax-only", HEADER), check=True)
 
-    def test_header(self):
+    def test_header(self) -> None:
         self.each(((name, compiler) for name, compiler in LANGUAGES), self.header)
 
-    def source(self, compiler, standard):
+    def source(self, compiler: str, standard: str) -> None:
         if shutil.which(compiler) is None:
             self.skipTest(f"{compiler} is not on the path")
         for name in SOURCES:
             words = (compiler, f"-std={standard}", *STRICT, "-fsyntax-only", HEADER.parent / name)
             self.same(f"{name} by {compiler} in {standard}", said(*words), "status 0")
 
-    def test_sources(self):
+    def test_sources(self) -> None:
         """Each function that the sources call is declared, by every compiler that is here."""
         self.each(((f"{compiler} {standard}", compiler, standard) for compiler, standard in COMPILERS), self.source)
 
-    def exported(self, path, *words):
+    def exported(self, path: pathlib.Path, *words: typing.Any) -> None:
         found = subprocess.run(
             ("nm", "--defined-only", *words, path), capture_output=True, text=True, check=True
         ).stdout
@@ -452,14 +477,14 @@ class Built(harness.Case):
         declared = [f"atomfs_{name}" for name in harness.declared().functions]
         self.same(f"what {path.name} exports", sorted(names), sorted(declared))
 
-    def test_names(self):
+    def test_names(self) -> None:
         """The library exports what the header declares, and nothing else."""
         shared = built()
         self.each(
             (("shared", shared, "-D"), ("archive", shared.with_name("libatomfs.a"), "--extern-only")), self.exported
         )
 
-    def test_archive(self):
+    def test_archive(self) -> None:
         """What embed/build packs, under the version of the header."""
         dist = built().parent.parent
         version = harness.declared().version
@@ -471,14 +496,14 @@ class Built(harness.Case):
 
 
 class Embedded(harness.Case):
-    def test_asks(self):
+    def test_asks(self) -> None:
         """Without a word it builds nothing, and says what it would do."""
         harness.takes_a_process()
         done = subprocess.run([RUN], capture_output=True, text=True, timeout=harness.MOST_SECONDS)
         self.same("examples/embed/run", (done.returncode, done.stdout), (2, ""))
         self.same("what it asks for", re.findall(r"--\w+", done.stderr), ["--prove", "--built"])
 
-    def test_each_program(self):
+    def test_each_program(self) -> None:
         harness.library()
         done = subprocess.run([RUN, "--built"], capture_output=True, text=True, timeout=10 * harness.MOST_SECONDS)
         self.same(

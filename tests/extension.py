@@ -9,6 +9,7 @@ import shutil
 import subprocess
 import sys
 import tempfile
+import typing
 import unittest
 
 import harness
@@ -17,17 +18,16 @@ from harness import ROOT, Case
 PACKAGE, EMBED = ROOT / "bindings" / "python", ROOT / "embed"
 SOURCES = [PACKAGE / "src" / "atomfs" / name for name in ("_fast.c", "_door.c", "_files.c")]
 STRICT = "-std=gnu11", "-Wall", "-Wextra", "-Werror", "-shared", "-fPIC", "-fvisibility=hidden"
-CASES = "BothWays.test_drawn", "BothWays.test_forgets", "BothWays.test_full_directory", "BothWays.test_closed"
-CASES += "BothWays.test_steps", "BothWays.test_waits", "BothWays.test_copies", "BothWays.test_arguments"
-CASES += "Threads.test_lock", "Threads.test_seats", "Threads.test_error_lets_go", "Threads.test_is_freed"
-OF_DOOR = (
-    "BothWays.test_drawn",
-    "BothWays.test_link",
-    "BothWays.test_removed",
-    "BothWays.test_full",
-    "BothWays.test_own_tree",
+CASES = (
+    *("BothWays.test_drawn", "BothWays.test_forgets", "BothWays.test_full_directory", "BothWays.test_closed"),
+    *("BothWays.test_steps", "BothWays.test_waits", "BothWays.test_copies", "BothWays.test_arguments"),
+    *("Threads.test_lock", "Threads.test_seats", "Threads.test_error_lets_go", "Threads.test_is_freed"),
 )
-OF_DOOR += "Functions.test_as_functions", "Functions.test_is_freed", "Functions.test_threads", "Functions.test_types"
+OF_DOOR = (
+    *("BothWays.test_drawn", "BothWays.test_link", "BothWays.test_removed", "BothWays.test_full"),
+    *("BothWays.test_own_tree", "Functions.test_as_functions", "Functions.test_is_freed"),
+    *("Functions.test_threads", "Functions.test_types"),
+)
 # How many calls are drawn where each access of memory is looked at.
 DRAWN = "60"
 MOST_SECONDS = 600
@@ -158,7 +158,7 @@ print(refused)
 
 
 @functools.cache
-def python():
+def python() -> tuple[str, str]:
     """A Python that takes the extension, and its headers."""
     ask = "import sys, sysconfig; print(sys.version_info >= (3, 11), sysconfig.get_config_var('Py_GIL_DISABLED'), sysconfig.get_paths()['include'])"
     for found in filter(None, (os.environ.get("PYTHON"), "/usr/bin/python3", shutil.which("python3"))):
@@ -170,22 +170,24 @@ def python():
     raise unittest.SkipTest("no Python from 3.11 on has its headers: apt-get install python3-dev")
 
 
-def wanted(*commands):
+def wanted(*commands: str) -> None:
     for command in commands:
         if not shutil.which(command):
             raise unittest.SkipTest(f"{command} is not on the path: apt-get install {command}")
 
 
 class Extension(Case):
+    folder: pathlib.Path
+
     @classmethod
-    def setUpClass(cls):
+    def setUpClass(cls) -> None:
         cls.folder = pathlib.Path(cls.enterClassContext(tempfile.TemporaryDirectory(prefix="atomfs-extension-")))
 
-    def built(self, name, compiler, *flags):
+    def built(self, name: str, compiler: str, *flags: str) -> pathlib.Path:
         """A folder with the package, whose extension this compiler makes."""
         made = self.folder / name
         shutil.copytree(PACKAGE / "src", made, ignore=shutil.ignore_patterns("*.so", "__pycache__"))
-        words = [
+        words: list[str | pathlib.Path] = [
             compiler,
             *STRICT,
             *flags,
@@ -200,7 +202,7 @@ class Extension(Case):
         self.same(f"what {compiler} says", self.done(words), (0, ""))
         return made
 
-    def done(self, words, **more):
+    def done(self, words: typing.Sequence[str | pathlib.Path], **more: str) -> tuple[int, str]:
         ran = subprocess.run(
             [str(word) for word in words],
             env=os.environ | {"PYTHONDONTWRITEBYTECODE": "1"} | more,
@@ -212,7 +214,7 @@ class Extension(Case):
         )
         return ran.returncode, ran.stdout + ran.stderr
 
-    def cases(self, made):
+    def cases(self, made: pathlib.Path) -> tuple[tuple[str, ...], dict[str, str]]:
         """The words and the variables by which the package's tests of both ways run, on a built package."""
         harness.library()
         tests = PACKAGE / "tests"
@@ -221,14 +223,14 @@ class Extension(Case):
         where = {"PYTHONPATH": f"{made}:{tests}", "ATOMFS_LIBRARY": harness.library_at(), "ATOMFS_PURE": "0"}
         return words, where | {"ATOMFS_DRAWN": DRAWN, "PYTHONMALLOC": "malloc"}
 
-    def test_warnings(self):
+    def test_warnings(self) -> None:
         """No compiler has a word to say of it."""
         for compiler in ("gcc", "clang"):
             with self.subTest(compiler):
                 wanted(compiler)
                 self.built(compiler, compiler, "-O2")
 
-    def test_stable(self):
+    def test_stable(self) -> None:
         """What it asks for of Python is in the stable ABI, and else only the C library of any Linux."""
         wanted("nm")
         made = self.built("stable", "cc", "-O2")
@@ -245,7 +247,7 @@ class Extension(Case):
             names - of_python, {"memchr", "memcmp", "memcpy", "close", "__errno_location", "__stack_chk_fail"}
         )
 
-    def test_valgrind(self):
+    def test_valgrind(self) -> None:
         """valgrind finds no fault and nothing lost in the extension or the library."""
         wanted("valgrind")
         words, where = self.cases(self.built("valgrind", "cc", "-O1", "-g"))
@@ -264,7 +266,7 @@ class Extension(Case):
         self.same("what valgrind says", "\n".join(ours), "")
         self.assertIn("LEAK SUMMARY", told)
 
-    def test_sanitizers(self):
+    def test_sanitizers(self) -> None:
         """The address sanitizer and that of undefined behaviour find nothing."""
         wanted("gcc")
         made = self.built("sanitized", "gcc", "-O1", "-g", "-fsanitize=address,undefined", "-fno-sanitize-recover=all")
@@ -276,7 +278,7 @@ class Extension(Case):
         self.assertRegex(came[1], r"(?m)^OK")
         self.assertNotRegex(came[1], "Sanitizer|runtime error")
 
-    def library_that_refuses(self):
+    def library_that_refuses(self) -> str:
         """The library, built with a heap that refuses growths."""
         wanted("ar", "ld", "nm", "objcopy", "cc")
         harness.library()
@@ -291,7 +293,7 @@ class Extension(Case):
         sources = [EMBED / f"{name}.c" for name in ("checks", "files", "shared")]
         return harness.compiled(self.folder, "heap.c", "-pthread", "-std=gnu11", "-I", EMBED, proved, *sources)
 
-    def test_refused(self):
+    def test_refused(self) -> None:
         """Each growth of memory refused in turn: both ways answer the same, and the tree stands as it did."""
         made = self.built("refused", "cc", "-O2")
         library = self.library_that_refuses()

@@ -16,7 +16,7 @@ SCRIPTS, SEEDS = 200, 6
 REPLIES = "ok", "failed", "failed ENOENT", "failed EEXIST", "stat dir 0", "wrote 0"
 LINES = "dir /a", "dir /b", "dir /a/a", "dir /b/a", "dir /a/b", "file /a -", "file /a/a -", "dir /c"
 RACE = b"atomfs 1\nthread m\nmkdir /a\nmkdir /a/d\nthread r\nrename /a /b\nschedule\nfinish\n"
-WORDS = b"write `reply CALL REPLY`, `tree LINE`, `helped CALL`, `waits CALL`, `before CALL CALL` or `overlap CALL CALL`, each also behind `not`, with `and` between two"
+WORDS = b"write `reply CALL REPLY`, `tree LINE`, `helped CALL`, `waits CALL`, `before CALL CALL` or `overlap CALL CALL`, each also after `not`, with `and` or `or` between two"
 CALL = b"a CALL is the name of a thread, `#` and a number from 1"
 REPLY = b"a REPLY is that of a journal, or `failed` for any error"
 LINE = b"a LINE is `dir PATH` or `file PATH HEX`, as a tree text has it"
@@ -110,7 +110,8 @@ def holds(clause: str, run: Seen) -> bool:
 
 
 def has(what: str, run: Seen) -> bool:
-    return all(holds(clause, run) for clause in what.split(" and "))
+    """Whether all conditions of an alternative hold: `and` binds more tightly than `or`."""
+    return any(all(holds(clause, run) for clause in clauses.split(" and ")) for clauses in what.split(" or "))
 
 
 def drawn_clause(draw: random.Random, threads: dict[str, list[str]]) -> str:
@@ -139,7 +140,9 @@ def drawn_script(draw: random.Random) -> tuple[Script, str]:
     else:
         calls = drawn.moving(draw)[:3]
     threads = {f"t{number}": made for number, made in enumerate(calls)}
-    what = " and ".join(drawn_clause(draw, threads) for _ in range(draw.choice((1, 1, 2))))
+    what = drawn_clause(draw, threads)
+    for _ in range(draw.choice((0, 0, 1, 2, 3))):
+        what += draw.choice((" and ", " or ")) + drawn_clause(draw, threads)
     return Script(threads, ["finish"]), what
 
 
@@ -182,6 +185,12 @@ class Words(Case):
                     Outcome(1, b"", b"atomfs: no run of 5 from seed 1 on has it\n"),
                 ),
                 (
+                    "none, as `and` binds more tightly",
+                    "find --where 'tree dir /none or tree dir / and tree dir /none' --seed 1 --runs 5",
+                    RACE,
+                    Outcome(1, b"", b"atomfs: no run of 5 from seed 1 on has it\n"),
+                ),
+                (
                     "the last seed",
                     "find --where 'not tree dir /none' --seed 9223372036854775807 --runs 1000000",
                     b"atomfs 1\nschedule\n",
@@ -197,7 +206,7 @@ class Words(Case):
             return Outcome(2, b"", b"atomfs: --where: " + why + b"\n")
 
         rows = (
-            ("", WORDS), (" ", WORDS), ("and", WORDS), ("not", WORDS), ("reply", WORDS), ("none m#1", WORDS), ("reply m#1 ok and", WORDS), ("reply m#1 ok  and helped m#1", WORDS),
+            ("", WORDS), (" ", WORDS), ("and", WORDS), ("not", WORDS), ("reply", WORDS), ("none m#1", WORDS), ("reply m#1 ok and", WORDS), ("reply m#1 ok  and helped m#1", WORDS), ("or", WORDS), ("helped m#1 or", WORDS), ("or helped m#1", WORDS), ("helped m#1 or or helped m#2", WORDS), ("helped m#1 and or helped m#2", WORDS), ("helped m#1 or not", WORDS), ("not or helped m#1", WORDS), ("(helped m#1 or helped m#2)", WORDS), ("helped m#1 or helped m", CALL), ("tree dir a or tree dir /", LINE),
             ("not not helped m#1", WORDS), ("helped", WORDS), ("helped m#1 m#2", WORDS), ("before m#1", WORDS), ("waits", WORDS), ("waits m#1 m#2", WORDS), ("overlap m#1", WORDS), ("overlap m#1 m#2 m#2", WORDS), ("waits m#0", CALL), ("overlap m#1 r", CALL), ("before m#1 m#2 m#2", WORDS),
             ("helped m", CALL), ("helped m#", CALL), ("helped m#0", CALL), ("helped m#01", CALL), ("helped m#x", CALL), ("before m#1 r", CALL), ("reply m ok", CALL),
             ("reply m#1", REPLY), ("reply m#1 done", REPLY), ("reply m#1 ok ok", REPLY), ("reply m#1 failed ENONE", REPLY), ("reply m#1 stat dir", REPLY), ("reply m#1 bytes 0", REPLY), ("reply m#1 failed ENOENT EEXIST", REPLY),
@@ -223,6 +232,8 @@ class Words(Case):
                         "waits m#3",
                         "overlap m#1 r#2",
                         "not helped M#1",
+                        "tree dir / or helped m#3",
+                        "helped m#3 and tree dir /none or tree dir /",
                     )
                 ),
                 self.ends,
@@ -240,6 +251,7 @@ class Words(Case):
         """What words may be."""
         self.each(((what, ("find", "--where", what, "--seed", "1", "--runs", "1"), b"atomfs 1\nthread m\nreaddir /\nschedule\n", Outcome(0, b"atomfs 1\nthread m\nreaddir /\nschedule\nm*5\n", b"atomfs: seed 1\n")) for what in (
             "reply m#1 names", "not reply m#1 failed", "not reply m#1 names a %61nd b", "tree dir /", "not tree file /f -", "not helped m#1 and not before m#1 m#1", "not waits m#1 and overlap m#1 m#1", "not reply m#1 bytes -", "not reply m#1 stat file 3",
+            "tree dir /none or tree dir /", "tree dir / or tree dir /none", "tree dir / or tree dir / and tree dir /none", "tree dir /none and tree dir / or tree dir /", "reply m#1 names a %6fr b or reply m#1 names",
         )), self.ends)  # fmt: skip
 
 

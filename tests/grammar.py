@@ -36,6 +36,7 @@ SCRIPTS = {b"atomfs 1": V1, b"atomfs 2": V2, b"atomfs 3": V3}
 JOURNALS = {b"atomfs-journal 1": V1, b"atomfs-journal 2": V1, b"atomfs-journal 3": V2, b"atomfs-journal 4": V3}
 
 CHECKPOINT = b"!checkpoint"
+DRAWN = b"!drawn"
 ERRORS = (
     "ENOENT",
     "ENOTDIR",
@@ -306,12 +307,12 @@ def journal(text: bytes) -> list[str]:
 
 class Script:
     """The calls of each thread, by the order of the blocks; the events of the schedule, as threads with numbers, and its checkpoints, as a word
-    that is no thread; and whether rounds follow.
+    that is no thread; whether rounds follow, and whether the last word leaves the rest to a seed.
     """
 
     def __init__(self, text: bytes) -> None:
         first = first_line(text)
-        self.header, self.finishes = first.decode("latin-1"), False
+        self.header, self.finishes, self.is_drawn = first.decode("latin-1"), False, False
         self.calls: dict[str, list[str]] = {}
         self.events: list[tuple[str, int]] = []
         self.has_schedule = False
@@ -352,8 +353,8 @@ class Script:
         thread, star, times = word.decode("latin-1").partition("*")
         if self.finishes:
             raise Fault("BadWord")
-        if word == b"finish":
-            self.finishes = True
+        if word in (b"finish", DRAWN):
+            self.finishes, self.is_drawn = True, word == DRAWN
             return
         if word == CHECKPOINT:
             self.events.append((word.decode(), 1))
@@ -372,5 +373,12 @@ class Script:
             for word in ([thread] * times if times <= 1_000 else [f"{thread}*{times}"])
         ]
         return "".join(
-            f"{line}\n" for line in (self.header, *blocks, "schedule", *words, *["finish"] * self.finishes)
+            f"{line}\n"
+            for line in (
+                self.header,
+                *blocks,
+                "schedule",
+                *words,
+                *["!drawn" if self.is_drawn else "finish"] * self.finishes,
+            )
         ).encode()

@@ -228,6 +228,13 @@ def compiled(folder: str | pathlib.Path, source: str, *more: str | pathlib.Path)
     return made
 
 
+def match_in(pattern: str, text: str, flags: int = 0) -> re.Match[str]:
+    """The first part of a text that fits a pattern. There has to be one."""
+    found = re.search(pattern, text, flags)
+    assert found, f"no part of the text fits {pattern}"
+    return found
+
+
 def shown(value: object) -> str:
     """A value as it is told of a row that fails."""
     if isinstance(value, Outcome):

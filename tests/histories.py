@@ -9,6 +9,7 @@ import copy
 import random
 import re
 import resource
+import typing
 import unittest
 
 import drawn
@@ -36,7 +37,11 @@ MAKING = (
     "read",
 )
 PATHS = "/a", "/b", "/a/a", "/a/b", "/b/a"
-STARTS = (
+# The lines before the entries; a begin with its number, seat and words, or a return with its number and reply; the tree and the replies behind entries.
+Start = tuple[str, ...]
+Entry = tuple[typing.Any, ...]
+Explained = tuple[model.Tree, dict[int, str]]
+STARTS: tuple[Start, ...] = (
     ("atomfs-journal 1",),
     ("atomfs-journal 2", "start", "dir /", "dir /a", "file /a/b 07", "entries"),
     ("atomfs-journal 3", "start", "dir /", "dir /a", "dir /b", "entries"),
@@ -44,19 +49,29 @@ STARTS = (
 # Of journals of the fourth version, which are drawn by themselves.
 LISTING = *MAKING, "list", "list", "list", "list"
 AFTER = "/", "/", "/a", "/b", "/x/a"
-THIRD_STARTS = (
+THIRD_STARTS: tuple[Start, ...] = (
     ("atomfs-journal 4", "start", "dir /", "entries"),
     ("atomfs-journal 4", "start", "dir /", "dir /a", "file /a/b 07", "dir /b", "entries"),
 )
 THIRD_HISTORIES = 300
-CHANGED = "ok", "failed ENOENT", "failed EEXIST", "stat dir 0", "stat dir 1", "names a", "bytes 07"
+ERRORS = "ENOENT", "ENOTDIR", "EEXIST", "ENOTEMPTY", "EISDIR", "EINVAL", "EBUSY", "EPERM"
+CHANGED = (
+    "ok",
+    "failed ENOENT",
+    "failed EEXIST",
+    "stat dir 0",
+    "stat dir 1",
+    "names a",
+    "bytes 07",
+    "failed EEXIST|ENOTDIR",
+)
 
 
-def text_of(lines):
+def text_of(lines: typing.Iterable[str]) -> bytes:
     return "".join(f"{line}\n" for line in lines).encode()
 
 
-def call(draw, making=MAKING):
+def call(draw: random.Random, making: typing.Sequence[str] = MAKING) -> list[str]:
     """The words of a drawn call."""
     kind, path = draw.choice(making), draw.choice(PATHS)
     match kind:
@@ -74,18 +89,32 @@ def call(draw, making=MAKING):
             return [kind, path]
 
 
-def returned(draw, reply):
+def returned(draw: random.Random, reply: str) -> str:
     """A reply as it is told: some are left open."""
     if draw.randrange(6):
         return reply
+    if not draw.randrange(5):
+        return "?"
     if reply.startswith("failed "):
-        return "failed ?"
+        return draw.choice(("failed ?", f"failed {'|'.join(one_of(draw, reply.removeprefix('failed ')))}"))
     return "stat dir ?" if reply.startswith("stat dir ") else reply
 
 
-def history(draw, starts=STARTS, making=MAKING):
+def one_of(draw: random.Random, error: str) -> list[str]:
+    """Two to four errors, of which this is one."""
+    errors = [error, *draw.sample([other for other in ERRORS if other != error], draw.randint(1, 3))]
+    return draw.sample(errors, len(errors))
+
+
+def history(
+    draw: random.Random, starts: typing.Sequence[Start] = STARTS, making: typing.Sequence[str] = MAKING
+) -> tuple[Start, list[Entry]]:
     """The lines before the entries, and the entries: calls on two to four seats, whose replies come from a hidden order."""
-    start, entries, calls, replies, under_way = draw.choice(starts), [], {}, {}, {}
+    start = draw.choice(starts)
+    entries: list[Entry] = []
+    calls: dict[int, list[str]] = {}
+    replies: dict[int, str] = {}
+    under_way: dict[int, int] = {}
     tree, seats, count = model.started(list(start))[0], draw.randint(2, 4), draw.randint(2, 6)
     while len(calls) < count or under_way and draw.randrange(30):
         seat = draw.randrange(seats)
@@ -105,16 +134,18 @@ def history(draw, starts=STARTS, making=MAKING):
     return start, entries
 
 
-def line_of(entry):
+def line_of(entry: Entry) -> str:
     if entry[0] == "begin":
         return f"begin {entry[1]} {entry[2]} {' '.join(entry[3])}"
     return f"return {entry[1]} {entry[2]}"
 
 
-def fits(told, reply):
+def fits(told: str, reply: str) -> bool:
     """Whether a reply is the one of which this is told."""
+    if told.startswith("failed ") and "|" in told:
+        return reply.removeprefix("failed ") in told.removeprefix("failed ").split("|")
     return (
-        told == reply
+        told in (reply, "?")
         or told == "failed ?"
         and reply.startswith("failed ")
         or told == "stat dir ?"
@@ -122,12 +153,14 @@ def fits(told, reply):
     )
 
 
-def orders(start, entries, whole):
+def orders(start: Start, entries: typing.Sequence[Entry], whole: typing.Sequence[Entry]) -> typing.Iterator[Explained]:
     """The tree and the replies behind entries, by each order of commits that explains them and gives calls the replies that the whole history records of them."""
     told = {entry[1]: entry[2] for entry in whole if entry[0] == "return"}
     calls = {entry[1]: entry[3] for entry in entries if entry[0] == "begin"}
 
-    def goes_on(place, tree, under_way, replies):
+    def goes_on(
+        place: int, tree: model.Tree, under_way: frozenset[int], replies: dict[int, str]
+    ) -> typing.Iterator[Explained]:
         if place == len(entries):
             yield tree, replies
         else:
@@ -145,25 +178,29 @@ def orders(start, entries, whole):
     return goes_on(0, model.started(list(start))[0], frozenset(), {})
 
 
-def has_order(start, entries, whole):
+def has_order(start: Start, entries: typing.Sequence[Entry], whole: typing.Sequence[Entry]) -> bool:
     """Whether some order of commits explains entries: every order is tried."""
     return any(True for _ in orders(start, entries, whole))
 
 
-def first_without(start, entries, whole):
+def first_without(
+    start: Start,
+    entries: typing.Sequence[Entry],
+    whole: typing.Callable[[typing.Sequence[Entry]], typing.Sequence[Entry]],
+) -> int:
     """The first place, counted from 1, up to which no order explains entries; `whole` says which replies of those up to there count."""
     return next(
         place for place in range(1, len(entries) + 1) if not has_order(start, entries[:place], whole(entries[:place]))
     )
 
 
-def could_reply(start, before, number):
+def could_reply(start: Start, before: typing.Sequence[Entry], number: int) -> set[str]:
     """What the call of a number can reply behind entries, in each order that explains them."""
     words = next(entry[3] for entry in before if entry[:2] == ("begin", number))
     return {replies.get(number) or copy.deepcopy(tree).apply(words) for tree, replies in orders(start, before, before)}
 
 
-def named(start, entries, place):
+def named(start: Start, entries: typing.Sequence[Entry], place: int) -> str:
     """The entry of a place, as a message names it."""
     _, number, *_ = entries[place - 1]
     _, _, seat, words = next(entry for entry in entries if entry[:2] == ("begin", number))
@@ -176,15 +213,15 @@ COULD = "the call could have replied: "
 LATER = "with the replies of later lines nothing explains "
 
 
-def without_commits(text):
+def without_commits(text: bytes) -> bytes:
     return b"".join(line for line in text.splitlines(keepends=True) if not line.startswith(b"commit "))
 
 
-def refused(text, line, status=1, message=b""):
+def refused(text: typing.Sequence[str], line: bytes, status: int = 1, message: bytes = b"") -> tuple[bytes, Outcome]:
     return text_of(text), Outcome(status, line, message)
 
 
-def unexplained(text, place, line, call, *told):
+def unexplained(text: typing.Sequence[str], place: int, line: int, call: str, *told: str) -> tuple[bytes, Outcome]:
     """No order explains the return in a line, of which the call is told, and what it could have replied."""
     number = text[line - 1].split(" ")[1]
     lines = f"line {line}: {text[line - 1]}; call {number} is {call}", *told
@@ -193,7 +230,7 @@ def unexplained(text, place, line, call, *told):
     )
 
 
-def could(*replies):
+def could(*replies: str) -> str:
     """What is told of the replies that a call could have had."""
     return COULD + ", ".join(replies)
 
@@ -222,6 +259,26 @@ ROWS = {
         text_of((*BEGUN, "commit 2", "commit 1", "return 1 ok", "return 2 failed ENOENT")),
         0,
     ),
+    "one of two errors": refused(
+        (*BEGUN, "return 1 ok", "return 2 failed ENOTDIR|ENOENT"),
+        text_of((*BEGUN, "commit 2", "commit 1", "return 1 ok", "return 2 failed ENOENT")),
+        0,
+    ),
+    "any reply": refused(
+        (*BEGUN, "return 1 ok", "return 2 ?"),
+        text_of((*BEGUN, "commit 2", "commit 1", "return 1 ok", "return 2 failed ENOENT")),
+        0,
+    ),
+    "one of two errors that nothing explains": unexplained(
+        (*BEGUN, "return 1 failed ENOENT|EEXIST", "return 2 ?"), 3, 4, "mkdir /a on seat 0", could("ok")
+    ),
+    "one error before a bar": refused((*BEGUN, "return 2 failed ENOENT|"), b"", 3, b"atomfs: line 4: BadReply\n"),
+    "two bars": refused((*BEGUN, "return 2 failed ENOENT||EEXIST"), b"", 3, b"atomfs: line 4: BadReply\n"),
+    "an error that is none": refused((*BEGUN, "return 2 failed ENOENT|EIO"), b"", 3, b"atomfs: line 4: BadReply\n"),
+    "a question mark among errors": refused(
+        (*BEGUN, "return 2 failed ENOENT|?"), b"", 3, b"atomfs: line 4: BadReply\n"
+    ),
+    "any reply of a call that is none": refused((*BEGUN, "return x ?"), b"", 3, b"atomfs: line 4: BadNumber\n"),
     "a reply that nothing explains": unexplained(
         (*BEGUN, "return 2 stat dir 1", "return 1 ok"),
         3,
@@ -331,19 +388,19 @@ ROWS = {
 
 
 class Histories(harness.Case):
-    def answered(self, given, wanted):
+    def answered(self, given: bytes, wanted: Outcome) -> None:
         self.same(given, run(given, "linearize"), with_line(wanted, given))
 
-    def test_rows(self):
+    def test_rows(self) -> None:
         self.each(((name, *row) for name, row in ROWS.items()), self.answered)
 
-    def fronts(self, given, wanted, last):
+    def fronts(self, given: bytes, wanted: bytes, last: bytes) -> None:
         """The front of a history, whose last entry is the first that `check` refuses."""
         self.same(given, run(given, "linearize", "--front")[:2], (1, wanted))
         place = sum(line.split(b" ")[0] in (b"begin", b"commit", b"return") for line in wanted.splitlines())
         self.same(wanted, run(wanted, "check"), Outcome(1, f"fault {place} ReturnUncommitted\n".encode(), last))
 
-    def test_front(self):
+    def test_front(self) -> None:
         """With `none` the journal up to that return; what is lawful or a fault is written as ever."""
         self.each(
             (
@@ -358,6 +415,12 @@ class Histories(harness.Case):
                     text_of((HEADER, "begin 1 0 stat /", "return 1 failed ?")),
                     text_of((HEADER, "begin 1 0 stat /", "return 1 failed ENOENT")),
                     b"atomfs: line 3: return 1 failed ENOENT; call 1 is stat / on seat 0; it has not committed\n",
+                ),
+                (
+                    "one of two errors",
+                    text_of((*BEGUN, "return 1 failed EBUSY|EPERM")),
+                    text_of((*BEGUN, "return 1 failed EBUSY")),
+                    b"atomfs: line 4: return 1 failed EBUSY; call 1 is mkdir /a on seat 0; it has not committed\n",
                 ),
                 (
                     "a size that is left open",
@@ -407,12 +470,12 @@ class Histories(harness.Case):
             given, wanted = ROWS[name]
             self.same(given, run(given, "linearize", "--front"), with_line(wanted, given))
 
-    def many(self, histories, wanted, words=()):
+    def many(self, histories: typing.Sequence[bytes], wanted: Outcome, words: typing.Sequence[str] = ()) -> None:
         """Histories one after the other, of which each begins with its header line."""
         given = b"".join(histories)
         self.same(given, run(given, "linearize", "--many", *words), with_line(wanted, given))
 
-    def test_many(self):
+    def test_many(self) -> None:
         lawful, none, fault = (
             ROWS[name][0] for name in ("a size that is left open", "a reply that nothing explains", "a busy seat")
         )
@@ -440,12 +503,20 @@ class Histories(harness.Case):
                 (
                     "one that nothing explains",
                     (lawful, none, started),
-                    Outcome(1, b"lawful 2\nnone 3 2\nlawful 1\nlawful 2 none 1 fault 0 unknown 0\n"),
+                    Outcome(
+                        1,
+                        b"lawful 2\nnone 3 2\nlawful 1\nlawful 2 none 1 fault 0 unknown 0\n",
+                        b"atomfs: history 2, line 9: return 2 stat dir 1; call 2 is stat /a on seat 1\n",
+                    ),
                 ),
                 (
                     "one with a fault",
                     (lawful, b"# one more\n", fault),
-                    Outcome(1, b"lawful 2\nfault 3 SeatBusy\nlawful 1 none 0 fault 1 unknown 0\n"),
+                    Outcome(
+                        1,
+                        b"lawful 2\nfault 3 SeatBusy\nlawful 1 none 0 fault 1 unknown 0\n",
+                        b"atomfs: history 2, line 10: begin 3 1 stat /; call 3 is stat / on seat 1\n",
+                    ),
                 ),
                 (
                     "one that is not known",
@@ -456,7 +527,11 @@ class Histories(harness.Case):
                 (
                     "one that is not known, and a fault",
                     (none, fault),
-                    Outcome(1, b"unknown 3\nfault 3 SeatBusy\nlawful 0 none 0 fault 1 unknown 1\n"),
+                    Outcome(
+                        1,
+                        b"unknown 3\nfault 3 SeatBusy\nlawful 0 none 0 fault 1 unknown 1\n",
+                        b"atomfs: history 2, line 9: begin 3 1 stat /; call 3 is stat / on seat 1\n",
+                    ),
                     ("--limit", "2"),
                 ),
                 (
@@ -474,12 +549,12 @@ class Histories(harness.Case):
             self.many,
         )
 
-    def test_limit(self):
+    def test_limit(self) -> None:
         """At one configuration nothing is known."""
         given = text_of((*BEGUN, "return 2 stat dir 1"))
         self.same(given, run(given, "linearize", "--limit", "1"), Outcome(4, b"unknown 2\n"))
 
-    def test_meeting(self):
+    def test_meeting(self) -> None:
         """What meets neither the call that returns nor one that meets it is not tried: each such call would double the configurations."""
         given = text_of(
             (
@@ -491,7 +566,7 @@ class Histories(harness.Case):
         )
         self.same(given, run(given, "linearize", "--limit", "100")[:2], (1, b"none 14 20\n"))
 
-    def explained(self, given, came):
+    def explained(self, given: bytes, came: Outcome) -> None:
         """A lawful journal, which is the history once its commits are taken out; of what is left open nothing is compared."""
         self.same(given, (came.status, came.message), (0, b""))
         self.same(came.output, run(came.output, "check"), Outcome(0, b"lawful\n"))
@@ -504,7 +579,7 @@ class Histories(harness.Case):
             else:
                 self.same(given, line, told)
 
-    def by_every_order(self, start, entries):
+    def by_every_order(self, start: Start, entries: typing.Sequence[Entry]) -> None:
         given = text_of((*start, *map(line_of, entries)))
         came = run(given, "linearize")
         if has_order(start, entries, entries):
@@ -520,7 +595,7 @@ class Histories(harness.Case):
         self.same(given, (set(told), len(told)), (of := could_reply(start, entries[: first - 1], number), len(of)))
         self.same(given, later, [LATER + named(start, entries, held)] if held < first else [])
 
-    def test_more_replies(self):
+    def test_more_replies(self) -> None:
         """Of more than ten replies ten are named, and two points say that there are more."""
         given = text_of(
             (
@@ -538,11 +613,11 @@ class Histories(harness.Case):
         self.same(given, came[:2], (1, b"none 6 9\n"))
         self.same(given, (rest, len(told), len({*told} & of)), ("..", 10, 10))
 
-    def test_every_order(self):
+    def test_every_order(self) -> None:
         harness.asks_of_answers()
         self.each(((f"drawn {seed}", *history(random.Random(seed))) for seed in range(HISTORIES)), self.by_every_order)
 
-    def test_every_order_of_lists(self):
+    def test_every_order_of_lists(self) -> None:
         """Of the third limits, with calls that list a directory in pieces."""
         harness.asks_of_answers()
         drawn_ones = (
@@ -551,12 +626,12 @@ class Histories(harness.Case):
         )
         self.each(((name, *one) for name, one in drawn_ones), self.by_every_order)
 
-    def comes_back(self, script):
+    def comes_back(self, script: bytes) -> None:
         """The journal of a run, without its commits."""
         journal, tree, _ = run(script, "run", "--robin").output.partition(b"tree\n")
         self.explained(without_commits(journal), run(without_commits(journal) + tree, "linearize"))
 
-    def test_runs(self):
+    def test_runs(self) -> None:
         harness.asks_of_answers()
         rows = [
             (f"drawn {seed}", drawn.script(drawn.moving(random.Random(seed)), version=2).encode())
@@ -569,19 +644,20 @@ class Histories(harness.Case):
         self.each(rows, self.comes_back)
 
     @staticmethod
-    def page():
+    def page() -> tuple[str, bytes, bytes]:
         """docs/TEST-A-FILE-SYSTEM.md, and the two histories that it shows: one without an order, and one that has an order."""
         page = (harness.ROOT / "docs" / "TEST-A-FILE-SYSTEM.md").read_text()
         first, second = re.findall(r"^printf '(.*)' \| atomfs linearize$", page, re.M)
-        return page, *(shown.replace("\\n", "\n").encode() for shown in (first, second))
+        one, other = (shown.replace("\\n", "\n").encode() for shown in (first, second))
+        return page, one, other
 
-    def test_page(self):
+    def test_page(self) -> None:
         """The second history of the page is explained."""
         harness.asks_of_answers()
         _, _, given = self.page()
         self.explained(given, run(given, "linearize"))
 
-    def test_page_without_order(self):
+    def test_page_without_order(self) -> None:
         """Of the first one the page says what is printed, and what the call could have replied."""
         page, given, _ = self.page()
         (due,) = re.findall(r"^It prints `(.*)`: nothing explains", page, re.M)
@@ -594,10 +670,10 @@ class Histories(harness.Case):
 class Long(harness.Case):
     """The time of a process: it grows as a text does."""
 
-    def setUp(self):
+    def setUp(self) -> None:
         harness.takes_a_process()
 
-    def seconds(self, replies):
+    def seconds(self, replies: int) -> float:
         """The processor time that a text of so many open replies takes, of which the first is refused."""
         given = text_of((HEADER, *(f"return {number} failed ?" for number in range(replies, 0, -1))))
         before = resource.getrusage(resource.RUSAGE_CHILDREN)
@@ -613,7 +689,7 @@ class Long(harness.Case):
         after = resource.getrusage(resource.RUSAGE_CHILDREN)
         return after.ru_utime + after.ru_stime - before.ru_utime - before.ru_stime
 
-    def test_open_replies(self):
+    def test_open_replies(self) -> None:
         few = max(self.seconds(20_000) for _ in range(3))
         self.assertLess(self.seconds(100_000), 10 * few + 0.1)
 

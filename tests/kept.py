@@ -4,16 +4,18 @@ and processor.
 `bench/counting.py` has the jobs, and `bench/contended.py` makes two of their scripts. Where the file has no counts of this machine, they are printed,
 and nothing is judged.
 """
+import importlib
 import shutil
 import sys
+import typing
 import unittest
 
 import harness
 from harness import ROOT, Case
 
 sys.path.insert(0, str(ROOT / "bench"))
-import contended
-import counting
+contended: typing.Any = importlib.import_module("contended")
+counting: typing.Any = importlib.import_module("counting")
 
 NEEDED = (
     ("valgrind", "valgrind, by which instructions are counted, is not installed"),
@@ -22,7 +24,7 @@ NEEDED = (
 NO_BLOCK = "bench/kept.txt has no counts of this kit, C library and processor: tests/kept.py has printed them"
 
 
-def change(job, count, block):
+def change(job: str, count: int, block: typing.Any) -> tuple[str | None, str]:
     """What is told of a count that differs from the one that is kept: nothing, a gain or a loss."""
     kept, bounds = block.counts[job], counting.bounds(job)
     share = count / kept
@@ -35,7 +37,7 @@ def change(job, count, block):
 
 
 class Counts(Case):
-    def test_counts(self):
+    def test_counts(self) -> None:
         """No job takes notably more instructions, or misses its data notably more often, than is kept."""
         harness.takes_a_process()
         for command, reason in NEEDED:
@@ -52,7 +54,7 @@ class Counts(Case):
         self.same("the jobs of bench/kept.txt", list(block.counts), list(counts))
         self.each(((job, job, count, block) for job, count in counts.items()), self.look)
 
-    def look(self, job, count, block):
+    def look(self, job: str, count: int, block: typing.Any) -> None:
         kind, told = change(job, count, block)
         if kind == "gain":
             print(f"tests/kept.py: {told}", file=sys.stderr)
@@ -61,11 +63,11 @@ class Counts(Case):
 
 
 class Scripts(Case):
-    def test_contended(self):
+    def test_contended(self) -> None:
         """What makes the scripts of the drawn runs makes them as they are stored."""
         self.each(((name, name) for name in counting.RUNS), self.look)
 
-    def look(self, name):
+    def look(self, name: str) -> None:
         self.same(
             f"python3 bench/contended.py {name}",
             contended.scripts()[name],
@@ -85,25 +87,29 @@ class Kept(Case):
         for kit, commit, few in (("a", "0123", 100_000), ("b", "4567 with changes", 7), ("a", "89ab", 90_000))
     )
 
-    def test_changes(self):
+    def test_changes(self) -> None:
         instructions = (103_000, None), (103_001, "loss"), (97_000, None), (96_999, "gain")
         misses = (105_000, None), (105_001, "loss"), (95_000, None), (94_999, "gain")
         rows = [("run few", row) for row in instructions] + [("misses of run few", row) for row in misses]
         self.each(((f"{job} {count}", job, count, kind) for job, (count, kind) in rows), self.look_at_change)
 
-    def look_at_change(self, job, count, kind):
+    def look_at_change(self, job: str, count: int, kind: str | None) -> None:
         self.same(count, change(job, count, self.OLD)[0], kind)
 
-    def test_blocks(self):
+    def test_blocks(self) -> None:
         """What is written is read again, and a block takes the place of one of the same machine alone."""
-        rows = ("none", []), ("one", [self.OLD]), ("two", [self.OLD, self.OTHER])
+        rows: tuple[tuple[str, list[typing.Any]], ...] = (
+            ("none", []),
+            ("one", [self.OLD]),
+            ("two", [self.OLD, self.OTHER]),
+        )
         self.each(((name, blocks, blocks) for name, blocks in rows), self.look_at_blocks)
         self.same(
             "a block of the same machine", counting.renewed([self.OTHER, self.OLD], self.NEW), [self.OTHER, self.NEW]
         )
         self.same("a block of another machine", counting.renewed([self.OLD], self.OTHER), [self.OLD, self.OTHER])
 
-    def look_at_blocks(self, blocks, wanted):
+    def look_at_blocks(self, blocks: list[typing.Any], wanted: list[typing.Any]) -> None:
         text = counting.written(blocks)
         self.same(text, counting.read(text), wanted)
         self.same(text, [counting.fitting(blocks, block.machine) for block in blocks], wanted)

@@ -14,6 +14,7 @@ import sys
 import tempfile
 import threading
 import time
+import typing
 import unittest
 
 import model
@@ -38,31 +39,34 @@ RUN, CHECK, SEEDS = ("run",), ("check",), ("seeds", "--seed", "1", "--runs", "3"
 LAWFUL = Outcome(0, b"lawful\n")
 LAWFUL_SEEDS = Outcome(0, b"seed 1 lawful\nseed 2 lawful\nseed 3 lawful\n")
 OUT_OF_MEMORY = Outcome(4, b"", b"atomfs: out of memory\n")
+# The words of a command, and the lines of an input.
+Words = typing.Sequence[str]
+Lines = typing.Iterable[str]
 
 
-def setUpModule():
+def setUpModule() -> None:
     takes_a_process()
 
 
-def alone(number, call, reply):
+def alone(number: int, call: str, reply: str) -> str:
     """The entries of a call that no other comes between."""
     return f"begin {number} 0 {call}\ncommit {number}\nreturn {number} {reply}\n"
 
 
-def counts(calls):
+def counts(calls: int) -> str:
     return f"begun {calls} committed {calls} returned {calls}\n"
 
 
-def finished(calls, *tree):
+def finished(calls: int, *tree: str) -> str:
     """The end of a run text: its tree below the root, and its counts."""
     return "".join(f"{line}\n" for line in ("tree", "dir /", *tree)) + counts(calls)
 
 
-def well(*text):
+def well(*text: str) -> Outcome:
     return Outcome(0, "".join(text).encode())
 
 
-def refused(line, fault):
+def refused(line: int, fault: str) -> Outcome:
     return Outcome(3, b"", f"atomfs: line {line}: {fault}\n".encode())
 
 
@@ -72,25 +76,25 @@ EMPTIES = {version: EMPTY.replace(b"1", b"%d" % version) for version in (1, 2, 3
 STARTED = {version: b"atomfs-journal %d\nstart\ndir /\nentries\n" % (version + 1) for version in (1, 2, 3)}
 
 
-def script(calls, words="finish"):
+def script(calls: typing.Iterable[str], words: str = "finish") -> Lines:
     """The lines of a script of one thread."""
     yield from ("atomfs 1", "thread t")
     yield from calls
     yield from ("schedule", words)
 
 
-def by(version, lines):
+def by(version: int, lines: typing.Iterable[str]) -> Lines:
     """The lines of a script by other limits."""
     yield f"atomfs {version}"
     yield from itertools.islice(lines, 1, None)
 
 
-def third(calls):
+def third(calls: typing.Iterable[str]) -> Lines:
     """The script of one thread by the third limits."""
     return by(3, script(calls))
 
 
-def of_model(calls):
+def of_model(calls: typing.Sequence[str]) -> Outcome:
     """The run text of such a script, by the model."""
     tree, text = model.Tree(3), ["atomfs-journal 4", "start", "dir /", "entries"]
     for number, call in enumerate(calls, 1):
@@ -98,7 +102,7 @@ def of_model(calls):
     return well("".join(f"{line}\n" for line in (*text, *tree.text())), counts(len(calls)))
 
 
-def long_names():
+def long_names() -> Lines:
     """Calls on as many names as a call answers, and one more, each as long as there are."""
     names = [f"{number:0{THIRD_NAME}}" for number in range(ENTRIES + 1)]
     yield from (f"mknod /{name}" for name in names[:ENTRIES])
@@ -120,12 +124,12 @@ def long_names():
     )
 
 
-def names_in_order(count):
+def names_in_order(count: int) -> Lines:
     """So many names of a full directory, in order."""
     return ("".join(letters) for letters in itertools.islice(itertools.product(NAMES, repeat=4), count))
 
 
-def full_directory(entries, *more):
+def full_directory(entries: int, *more: str) -> Lines:
     """A journal that starts at a directory of so many entries."""
     yield from ("atomfs-journal 4", "start", "dir /")
     yield from (f"file /{name} -" for name in names_in_order(min(entries, THIRD_ENTRIES)))
@@ -133,7 +137,7 @@ def full_directory(entries, *more):
     yield from ("entries", *more)
 
 
-def commented(length):
+def commented(length: int) -> Lines:
     """The lines of a script of so many bytes, the last of them in comments."""
     yield from ("atomfs 1", "schedule")
     length -= len(EMPTY)
@@ -143,50 +147,50 @@ def commented(length):
     yield "#" * (length - 1)
 
 
-def threads(count):
+def threads(count: int) -> Lines:
     yield "atomfs 1"
     for number in range(count):
         yield from (f"thread t{number}", f"mkdir /{number}")
     yield from ("schedule", "finish")
 
 
-def stats(count):
+def stats(count: int) -> Lines:
     return script("stat /" for _ in range(count))
 
 
-def nodes(count):
+def nodes(count: int) -> Lines:
     """So many calls that each make a node: 256 directories of at most 256 entries."""
     return script(
         f"mkdir /{number}" if number < ENTRIES else f"mknod /{number % ENTRIES}/{number}" for number in range(count)
     )
 
 
-def entries(count, *more):
+def entries(count: int, *more: str) -> Lines:
     """So many calls that each make an entry of the root, and others behind them."""
     return script((*(f"mknod /{number}" for number in range(count)), *more))
 
 
-def deep(levels):
+def deep(levels: int) -> Lines:
     """The calls that put a file below so many directories, of which each is made above the others."""
     yield from ("mkdir /p", "mknod /p/f", "write /p/f 0 ff")
     for _ in range(levels):
         yield from ("mkdir /x", "rename /p /x/p", "rename /x /p")
 
 
-def taken_apart(levels):
+def taken_apart(levels: int) -> Lines:
     """The calls that take these directories apart again, from above."""
     for _ in range(levels):
         yield from ("rename /p/p /x", "rmdir /p", "rename /x /p")
     yield from ("read /p/f 0 2", "unlink /p/f", "rmdir /p")
 
 
-def reads(count):
+def reads(count: int) -> Lines:
     """The calls that read a full file so often."""
     yield from ("mknod /f", f"truncate /f {FILE}")
     yield from (f"read /f 0 {FILE}" for _ in range(count))
 
 
-def each_file(count, *calls):
+def each_file(count: int, *calls: str) -> Lines:
     """The calls that make so many files, and these calls on each before the next one comes."""
     for number in range(count):
         folder, path = f"/{number // ENTRIES}", f"/{number // ENTRIES}/{number}"
@@ -195,12 +199,12 @@ def each_file(count, *calls):
         yield from (call.format(path) for call in calls)
 
 
-def files(count):
+def files(count: int) -> Lines:
     """The calls that make so many full files."""
     return each_file(count, f"truncate {{}} {FILE}")
 
 
-def crowd(count, calls):
+def crowd(count: int, calls: int) -> Lines:
     """The lines of a script of so many threads, which meet so often at one place: nearly all events are waits."""
     yield "atomfs 1"
     for number in range(count):
@@ -208,7 +212,7 @@ def crowd(count, calls):
     yield from ("schedule", "finish")
 
 
-def much():
+def much() -> typing.Iterator[tuple[typing.Any, ...]]:
     """Rows of runs that hold many replies, files and long paths."""
     for what, make, few in (("full reads", reads, 1_000), ("full files", files, 1_000), ("levels", deep, 5_000)):
         for count in (few, 2 * few):
@@ -231,14 +235,19 @@ class Limits(Case):
 
     measures = False
 
-    def setUp(self):
+    def setUp(self) -> None:
         folder = tempfile.TemporaryDirectory()
         self.addCleanup(folder.cleanup)
         self.given, self.made = pathlib.Path(folder.name, "given"), pathlib.Path(folder.name, "made")
 
-    def measured(self, words, room):
+    def measured(self, words: Words, room: int | None) -> tuple[int, bytes, float, int]:
         """The status of a process that may have so much room, what it tells, its seconds, and the most kilobytes that it held."""
-        confine = room and (lambda: resource.setrlimit(resource.RLIMIT_AS, (room, room)))
+
+        def limit() -> None:
+            if room:
+                resource.setrlimit(resource.RLIMIT_AS, (room, room))
+
+        confine = limit if room else None
         with open(self.given, "rb") as source, open(self.made, "wb") as sink, tempfile.TemporaryFile() as told:
             began = time.monotonic()
             child = subprocess.Popen([program(), *words], stdin=source, stdout=sink, stderr=told, preexec_fn=confine)
@@ -250,18 +259,18 @@ class Limits(Case):
             told.seek(0)
             return child.returncode, told.read(), time.monotonic() - began, usage.ru_maxrss
 
-    def end(self, length):
+    def end(self, length: int) -> bytes:
         """The last bytes that were written."""
         with open(self.made, "rb") as made:
             made.seek(max(0, self.made.stat().st_size - length))
             return made.read()
 
-    def most_bytes(self):
+    def most_bytes(self) -> int:
         """How long the text that was written may be."""
         with open(self.made, "rb") as made:
             return THIRD_TEXT if made.readline() == b"atomfs-journal 4\n" else TEXT
 
-    def compare(self, words, wanted, room=None):
+    def compare(self, words: Words, wanted: Outcome, room: int | None = None) -> None:
         status, told, seconds, kilobytes = self.measured(words, room)
         came = Outcome(status, self.end(len(wanted.output) or 4_096), told)
         with open(self.given, "rb") as given:
@@ -270,7 +279,7 @@ class Limits(Case):
         if self.measures:
             print(f"{self.row}, {words[0]}: status {status}, {seconds:.2f} seconds, {kilobytes} kilobytes", flush=True)
 
-    def ends(self, lines, words, wanted, room=None):
+    def ends(self, lines: typing.Iterable[str], words: Words, wanted: Outcome, room: int | None = None) -> None:
         """The outcome on these lines. A run text that is no longer than a text may be by its first line is checked."""
         with open(self.given, "w") as given:
             given.writelines(f"{line}\n" for line in lines)
@@ -279,10 +288,10 @@ class Limits(Case):
             self.made.replace(self.given)
             self.compare(CHECK, LAWFUL)
 
-    def whole(self, words, given, wanted):
+    def whole(self, words: Words, given: bytes, wanted: Outcome) -> None:
         self.same(f"atomfs {' '.join(words)}, {len(given)} bytes", spawned(words, given), with_line(wanted, given))
 
-    def test_lengths(self):
+    def test_lengths(self) -> None:
         """The last line is a comment that has no end."""
         for words, header, wanted in (
             (RUN, EMPTY, EMPTY_RUN),
@@ -297,14 +306,14 @@ class Limits(Case):
                 self.whole,
             )
 
-    def filled(self, words, header, length, wanted):
+    def filled(self, words: Words, header: bytes, length: int, wanted: Outcome) -> None:
         """The outcome on a text of so many bytes: behind these lines a comment of bytes zero, of which the file holds none."""
         with open(self.given, "wb") as given:
             given.write(header + b"#")
             given.truncate(length)
         self.compare(words, wanted)
 
-    def test_lengths_by_first_lines(self):
+    def test_lengths_by_first_lines(self) -> None:
         """How long a text may be is told by its first line alone, whatever reads it."""
         ran = {1: EMPTY_RUN, **{version: well(STARTED[version].decode(), finished(0)) for version in (2, 3)}}
         of_version = [
@@ -372,7 +381,7 @@ class Limits(Case):
             self.filled,
         )
 
-    def test_lengths_through_a_pipe(self):
+    def test_lengths_through_a_pipe(self) -> None:
         """What tells that a text is too long is read, and no more: the one that writes it is left with the rest."""
         piece = b"#" * 999 + b"\n"
         for version, most in ((2, TEXT), (3, THIRD_TEXT)):
@@ -380,6 +389,7 @@ class Limits(Case):
                 [program(), *RUN], stdin=subprocess.PIPE, stdout=subprocess.PIPE, stderr=subprocess.PIPE
             ) as child:
                 written = 0
+                assert child.stdin
                 with contextlib.suppress(BrokenPipeError):
                     written += child.stdin.write(EMPTIES[version])
                     while written < 2 * most:
@@ -389,7 +399,7 @@ class Limits(Case):
                 self.same(f"atomfs {version} without end", Outcome(child.returncode, output, message), wanted)
                 self.assertLess(written, most + 4 * len(piece) * 1_000)
 
-    def test_scripts(self):
+    def test_scripts(self) -> None:
         folders = [f"dir /{number}" for number in sorted(map(str, range(THREADS)))]
         first, last = (alone(number, "stat /", "stat dir 0") for number in (1, CALLS))
         self.each(
@@ -416,7 +426,7 @@ class Limits(Case):
             self.ends,
         )
 
-    def test_files_and_folders(self):
+    def test_files_and_folders(self) -> None:
         write, past, stat = f"write /f {FILE - 1} ff", f"write /f {FILE} 00", alone(3, "stat /f", f"stat file {FILE}")
         full = [f"file /{number} -" for number in sorted(map(str, range(ENTRIES)))]
         self.each(
@@ -455,7 +465,7 @@ class Limits(Case):
             self.ends,
         )
 
-    def test_paths(self):
+    def test_paths(self) -> None:
         name, path = NAME * "n", PATH * "/n"
         self.each(
             (
@@ -477,7 +487,7 @@ class Limits(Case):
             self.ends,
         )
 
-    def test_third_limits(self):
+    def test_third_limits(self) -> None:
         """Each at the limit and one past it."""
         name, path, mib = THIRD_NAME * "n", THIRD_PATH * "/n", f"truncate /f {THIRD_READ + 1}"
         chain = [f"mkdir {path[: 2 * depth]}" for depth in range(1, THIRD_PATH + 1)]
@@ -606,7 +616,7 @@ class Limits(Case):
             self.ends,
         )
 
-    def test_third_calls(self):
+    def test_third_calls(self) -> None:
         """More than the other limits have, as many as there are, and one more."""
         last = {
             count: well(alone(count, "stat /", "stat dir 0"), finished(count)) for count in (CALLS + 1, THIRD_CALLS)
@@ -642,7 +652,7 @@ class Limits(Case):
             self.ends,
         )
 
-    def test_third_directories(self):
+    def test_third_directories(self) -> None:
         """Journals that start at a full one, and calls that fill one."""
         entry, last = "begin 1 0 mknod /X", f"begin 2 1 list / /{4 * NAMES[-1]} 9"
         self.each(
@@ -697,7 +707,7 @@ class Limits(Case):
             self.ends,
         )
 
-    def test_levels(self):
+    def test_levels(self) -> None:
         """More than a path can name: a tree that is made from its leaf up, and taken apart from its root down."""
         calls = (*deep(10_000), *taken_apart(10_000))
         last = (
@@ -707,10 +717,10 @@ class Limits(Case):
         )
         self.each([("10000 levels, taken apart", script(calls), RUN, well(*last, finished(len(calls))))], self.ends)
 
-    def test_much_to_hold(self):
+    def test_much_to_hold(self) -> None:
         self.each(much(), self.ends)
 
-    def held(self, words):
+    def held(self, words: Words) -> typing.Iterator[int]:
         """The status of a process, and the most bytes that it held. It is started by a small one, since what it starts from counts."""
         with open(self.given, "rb") as source, open(self.made, "wb") as sink:
             done = subprocess.run(
@@ -723,7 +733,7 @@ class Limits(Case):
             )
         return map(int, done.stderr.split(b"\n")[-2].split())
 
-    def test_room_of_events(self):
+    def test_room_of_events(self) -> None:
         """What is held of a run that is told is its text, and of a picture a few numbers for each mark; a schedule ends where its events are too many."""
         with open(self.given, "w") as given:
             given.writelines(f"{line}\n" for line in crowd(THREADS, 32))
@@ -738,13 +748,13 @@ class Limits(Case):
                 if self.measures:
                     print(f"{' '.join(words)}: {events} events, {most} bytes", flush=True)
 
-    def room(self, calls, fits):
+    def room(self, of_each: tuple[str, ...], fits: bool) -> None:
         """So many calls on each of 5,000 files, for whose bytes alone there is room."""
-        calls = list(each_file(5_000, *calls))
+        calls = list(each_file(5_000, *of_each))
         wanted = well(counts(len(calls))) if fits else OUT_OF_MEMORY
         self.ends(script(calls), RUN, wanted, ROOM)
 
-    def test_room_of_cut_files(self):
+    def test_room_of_cut_files(self) -> None:
         """A file that was full does not hold on to that room once it grows again, unless it fills half of it."""
         cut, below, half = (f"truncate {{}} {size}" for size in (0, FILE // 2 - 1, FILE // 2))
         full = f"truncate {{}} {FILE}"
@@ -757,11 +767,39 @@ class Limits(Case):
             self.room,
         )
 
-    def test_room_of_far_bytes(self):
+    def test_room_of_far_bytes(self) -> None:
         """A byte far behind the start of a file makes little room beside what stands before it."""
         self.each([("a byte at half, cut", (f"write {{}} {FILE // 2} ff", "truncate {} 0"), True)], self.room)
 
-    def test_limits_of_threads(self):
+    def history(self, calls: tuple[tuple[int, str, str], ...], *lines: str) -> None:
+        """A lawful history of calls one after the other, and then of these lines, searched in the room of small files."""
+        alone = (f"{word} {number} {rest}" for number, *both in calls for word, rest in zip(("begin", "return"), both))
+        self.ends([*STARTED[3].decode().splitlines(), *alone], ("linearize",), well(*lines), ROOM)
+
+    def test_room_of_histories(self) -> None:
+        """The search for the commits of a history makes no zeros: each file is of the largest size."""
+        last = THIRD_FILE - 1
+        longest = (1, "0 mknod /a", "ok"), (2, f"0 truncate /a {THIRD_FILE}", "ok")
+        read = f"0 read /a {last - 1} 8"
+        self.each(
+            (
+                ("zeros", longest, "commit 2\nreturn 2 ok\n"),
+                ("zeros that are read", (*longest, (3, read, "bytes 0000")), "commit 3\nreturn 3 bytes 0000\n"),
+                (
+                    "a byte after them",
+                    (*longest[:1], (2, f"0 write /a {last} ff", "wrote 1"), (3, read, "bytes 00ff")),
+                    "commit 3\nreturn 3 bytes 00ff\n",
+                ),
+                (
+                    "a byte before them",
+                    (*longest, (3, "0 write /a 0 ff", "wrote 1"), (4, "0 stat /a", f"stat file {THIRD_FILE}")),
+                    f"commit 4\nreturn 4 stat file {THIRD_FILE}\n",
+                ),
+            ),
+            self.history,
+        )
+
+    def test_limits_of_threads(self) -> None:
         """A tree of real threads has the limits of its script: by the second ones a byte at the end of the largest file makes that file, of which there is no
         room for so many; by the first ones such a write fails, and takes none."""
         calls = list(each_file(400, f"write {{}} {FILE_BY_SECOND - 1} 00"))
@@ -793,7 +831,7 @@ class Limits(Case):
             self.ends,
         )
 
-    def test_more_than_there_is(self):
+    def test_more_than_there_is(self) -> None:
         self.each(
             (
                 (f"30000 full reads in {ROOM} bytes", script(reads(30_000)), RUN, OUT_OF_MEMORY, ROOM),
@@ -808,10 +846,10 @@ class Stack(Case):
     """Each command does with little stack what it does with much: none needs more where a tree is deep, or where there are many calls or threads."""
 
     @staticmethod
-    def confine():
+    def confine() -> None:
         resource.setrlimit(resource.RLIMIT_STACK, (STACK, STACK))
 
-    def ends(self, lines, *words):
+    def ends(self, lines: typing.Iterable[str], *words: str) -> Outcome:
         given = "".join(f"{line}\n" for line in lines).encode()
         # The environment stands on the stack too.
         came = spawned(words, given, env={}, preexec_fn=self.confine)
@@ -819,7 +857,7 @@ class Stack(Case):
         self.same("the status", came.status, 0)
         return came
 
-    def test_scripts(self):
+    def test_scripts(self) -> None:
         path = PATH * "/n"
         many = [
             line
@@ -854,14 +892,14 @@ class Stack(Case):
             ((f"{' '.join(words)}, {name}", lines, *words) for name, lines in kinds for words in commands), self.ends
         )
 
-    def test_journals(self):
+    def test_journals(self) -> None:
         for name, calls in (("a deep tree", deep(300)), ("many names", entries(ENTRIES))):
             text = self.ends(script(calls) if name == "a deep tree" else calls, *RUN).output.decode()
             for words in (CHECK, ("draw",), ("draw", "--html")):
                 with self.subTest(f"{words[0]}, {name}"):
                     self.ends(text.splitlines(), *words)
 
-    def test_help(self):
+    def test_help(self) -> None:
         self.each(
             (
                 (" ".join(words), [], *words)

@@ -66,7 +66,7 @@ def broken(
         case "never" if seeds_with:
             return f"atomfs: never {what}: seed {seeds_with[0]} has it\n"
         case "always" if seeds_without:
-            return f"atomfs: always {what}: seed {seeds_without[0]} has it not\n"
+            return f"atomfs: always {what}: seed {seeds_without[0]} does not have it\n"
         case "sometimes" if not seeds_with:
             return f"atomfs: sometimes {what}: no run of {runs} from seed {first} on has it\n"
     return ""
@@ -128,7 +128,7 @@ class Asserts(Case):
                     ("--always 'reply m#1 ok'", lines, b""),
                     ("--sometimes 'tree dir /b'", lines, b""),
                     (f"--never '{always}'", lines, f"atomfs: never {always}: seed 1 has it\n".encode()),
-                    ("--always 'tree dir /none'", lines, b"atomfs: always tree dir /none: seed 1 has it not\n"),
+                    ("--always 'tree dir /none'", lines, b"atomfs: always tree dir /none: seed 1 does not have it\n"),
                     ("--sometimes 'tree dir /none'", lines, f"atomfs: sometimes tree dir /none: {none}\n".encode()),
                     (
                         f"--sometimes 'tree dir /none' --never '{always}' --always '{always}' --never 'not {always}'",

@@ -12,17 +12,18 @@ import shlex
 import shutil
 import subprocess
 import tempfile
+import typing
 import unittest
 
 import harness
-from harness import DATA, ROOT, Case
+from harness import DATA, ROOT, Case, match_in
 from packages import wanted
 
 HELPS = {path.name: path.read_text() for path in sorted((DATA / "help").iterdir())}
 PROGRAM = "atomfs"
 COMMANDS = [name for name in HELPS if name != PROGRAM]
 LISTED = re.findall(r"^  (\w+)  ", HELPS[PROGRAM].partition("Options:")[0], re.M)
-KINDS = re.search(r"possible values: (.*)\]", HELPS["explain"])[1].split(", ")
+KINDS = match_in(r"possible values: (.*)\]", HELPS["explain"])[1].split(", ")
 # The files of the folder in which a shell completes.
 FILES = ["a script", "journal", "other.script"]
 # How wide a page is set, so that no sentence of it is broken.
@@ -59,19 +60,19 @@ zle -N zle-line-init each
 """
 
 
-def options(name):
+def options(name: str) -> list[str]:
     """The options of a help, all names of all."""
-    listed = re.search(r"^Options:\n(.*?)(?:\n\n|\Z)", HELPS[name], re.M | re.S)[1]
+    listed = match_in(r"^Options:\n(.*?)(?:\n\n|\Z)", HELPS[name], re.M | re.S)[1]
     terms = [line.strip().split("  ")[0] for line in listed.splitlines()]
     return [word for term in terms for word in re.findall(r"(?<!\S)--?[\w-]+", term)]
 
 
-def plain(text):
+def plain(text: str) -> str:
     """A text without the signs that a page has no need of, and with single spaces."""
     return " ".join(re.sub("[`<>]", "", text).split())
 
 
-def made(folder, *more):
+def made(folder: str | pathlib.Path, *more: pathlib.Path) -> subprocess.CompletedProcess[str]:
     """Has embed/manual fill a folder."""
     words = [str(ROOT / "embed" / "manual"), str(folder), *map(str, more)]
     return subprocess.run(words, capture_output=True, text=True, timeout=harness.MOST_SECONDS)
@@ -80,16 +81,20 @@ def made(folder, *more):
 class Made(Case):
     """A test in a folder that embed/manual has filled."""
 
+    folder: pathlib.Path
+    share: pathlib.Path
+    done: subprocess.CompletedProcess[str]
+
     @classmethod
-    def setUpClass(cls):
+    def setUpClass(cls) -> None:
         cls.folder = pathlib.Path(tempfile.mkdtemp(prefix="atomfs-manual-"))
         cls.addClassCleanup(shutil.rmtree, cls.folder)
         cls.done = made(cls.folder)
         cls.share = cls.folder / "share"
 
-    def ran(self, words, **more):
+    def ran(self, words: typing.Sequence[str | pathlib.Path], **more: typing.Any) -> str:
         """What a command writes that is to end with status 0 and without a message."""
-        ran = subprocess.run(
+        ran: subprocess.CompletedProcess[str] = subprocess.run(
             [str(word) for word in words], capture_output=True, text=True, timeout=harness.MOST_SECONDS, **more
         )
         self.same(" ".join(map(str, words)), (ran.returncode, ran.stderr), (0, ""))
@@ -97,12 +102,12 @@ class Made(Case):
 
 
 class Pages(Made):
-    def pages(self):
+    def pages(self) -> list[tuple[str, str, pathlib.Path]]:
         """The names of the helps with their pages."""
         named = {PROGRAM: PROGRAM, **{name: f"{PROGRAM}-{name}" for name in COMMANDS}}
         return [(name, name, self.share / "man" / "man1" / f"{page}.1") for name, page in named.items()]
 
-    def test_files(self):
+    def test_files(self) -> None:
         """There is a page for the program and for each command, and a file for each shell, where each is looked for."""
         due = [page for _, _, page in self.pages()]
         due += [self.share / "bash-completion" / "completions" / PROGRAM]
@@ -111,7 +116,7 @@ class Pages(Made):
         self.same("embed/manual", (self.done.returncode, self.done.stdout, self.done.stderr), (0, "", ""))
         self.same("its files", sorted(path for path in self.share.rglob("*") if path.is_file()), sorted(due))
 
-    def test_other_help(self):
+    def test_other_help(self) -> None:
         """What the help has is on the page, and a help of another form is refused."""
         with tempfile.TemporaryDirectory(prefix="atomfs-") as folder:
             helps = pathlib.Path(shutil.copytree(DATA / "help", pathlib.Path(folder, "help")))
@@ -124,56 +129,58 @@ class Pages(Made):
             came = made(folder, helps)
             self.same("an option without a sign", (came.returncode, "robin" in came.stderr), (1, True))
 
-    def set(self, name, page, *words):
+    def set(self, name: str, page: pathlib.Path, *words: str | pathlib.Path) -> None:
         self.same(name, (self.ran([*words, page])), "")
 
-    def test_groff(self):
+    def test_groff(self) -> None:
         wanted("groff")
-        self.each((row + ("groff", "-man", "-ww", "-z", "-Tutf8") for row in self.pages()), self.set)
+        self.each(((*row, *("groff", "-man", "-ww", "-z", "-Tutf8")) for row in self.pages()), self.set)
 
-    def test_mandoc(self):
+    def test_mandoc(self) -> None:
         wanted("mandoc")
-        self.each((row + ("mandoc", "-Tlint", "-Wwarning") for row in self.pages()), self.set)
+        self.each(((*row, *("mandoc", "-Tlint", "-Wwarning")) for row in self.pages()), self.set)
 
-    def test_man(self):
+    def test_man(self) -> None:
         """`man atomfs run` shows the page of the command, and has no warning."""
         wanted("man")
         variables = os.environ | {"MANPATH": str(self.share / "man"), "MANWIDTH": "80", "LC_ALL": "C.UTF-8"}
-        for words in ([], *([name] for name in COMMANDS)):
+        for words in ((), *((name,) for name in COMMANDS)):
             with self.subTest(words):
                 text = self.ran(["man", "--warnings", PROGRAM, *words], env=variables)
                 self.same("its first line", text.split("(1)")[0], "-".join([PROGRAM, *words]).upper())
 
-    def test_words(self):
+    def test_words(self) -> None:
         """Each sentence of the help, each option with its value, each status and each example is on its page, as `man` shows it."""
         wanted("groff")
         self.each(self.pages(), self.look_at_words)
 
-    def look_at_words(self, name, page):
-        words = ["groff", "-man", "-Tascii", "-P-cbou", f"-rLL={WIDE}n", page]
+    def look_at_words(self, name: str, page: pathlib.Path) -> None:
+        words = ("groff", "-man", "-Tascii", "-P-cbou", f"-rLL={WIDE}n", page)
         text = "\n".join(plain(line) for line in self.ran(words).splitlines())
         about, *rest = HELPS[name].splitlines()
         self.same(about, f"{about}.".replace("`", "") in text.splitlines(), True)
         for line in filter(None, rest):
             if not re.match(r"Usage: |[A-Z][a-z]+(?: \w+)?:$", line):
                 term, _, says = line.strip().partition("  ")
-                page = f"{PROGRAM}-{term}(1)" if term in COMMANDS else term
-                form = r"\s+".join(re.escape(plain(part)) for part in (page, says) if part)
+                named = f"{PROGRAM}-{term}(1)" if term in COMMANDS else term
+                form = r"\s+".join(re.escape(plain(part)) for part in (named, says) if part)
                 self.same(line, bool(re.search(f"^{form}$", text, re.M)), True)
 
 
 class Completions(Made):
     """What three shells offer for what is typed."""
 
+    place: pathlib.Path
+
     @classmethod
-    def setUpClass(cls):
+    def setUpClass(cls) -> None:
         super().setUpClass()
         cls.place = cls.folder / "place"
         cls.place.mkdir()
         for name in FILES:
             (cls.place / name).touch()
 
-    def rows(self):
+    def rows(self) -> typing.Iterator[tuple[tuple[str, ...], str, list[str]]]:
         """What is typed after the program, the word that is begun apart, and what is to be offered."""
         yield (), "", LISTED
         yield (), "ou", ["outcomes"]
@@ -193,7 +200,7 @@ class Completions(Made):
         yield ("explain", "BadPath"), "Tra", ["TrailingSlash"]
         yield ("explain",), "j", []
 
-    def look(self, offered):
+    def look(self, offered: typing.Callable[[list[tuple[str, ...]]], list[list[str]]]) -> None:
         rows = list(self.rows())
         came = offered([(*words, begun) for words, begun, _ in rows])
         self.same("how many answers there are", len(came), len(rows))
@@ -201,12 +208,12 @@ class Completions(Made):
             with self.subTest([*words, begun]):
                 self.same([*words, begun], sorted(found), sorted(due))
 
-    def test_short_options(self):
+    def test_short_options(self) -> None:
         """They have short names too."""
         self.same("the options of the program", options(PROGRAM), ["-h", "--help", "-V", "--version"])
-        self.same("those of run", options("run"), ["--robin", "--seed", "--from", "-h", "--help"])
+        self.same("those of run", options("run"), ["--robin", "--seed", "--from", "--color", "-h", "--help"])
 
-    def by_bash(self, typed):
+    def by_bash(self, typed: typing.Iterable[tuple[str, ...]]) -> list[list[str]]:
         """What the function leaves, which bash calls with the words."""
         lines = [f"source {shlex.quote(str(self.share / 'bash-completion' / 'completions' / PROGRAM))}"]
         for words in typed:
@@ -215,7 +222,7 @@ class Completions(Made):
         told = self.ran(["bash", "--norc", "--noprofile", "-c", "\n".join(lines)], cwd=self.place)
         return [line.split("\t") if line else [] for line in told.splitlines()]
 
-    def by_zsh(self, typed):
+    def by_zsh(self, typed: typing.Iterable[tuple[str, ...]]) -> list[list[str]]:
         """What the functions hand to zsh, which completes a line of each."""
         text, offered = self.folder / "typed", self.folder / "offered"
         text.write_text("".join(f"{' '.join([PROGRAM, *words])}\n" for words in typed))
@@ -224,7 +231,7 @@ class Completions(Made):
         self.at_a_terminal(["zsh", "-d", "-i"], b"", variables)
         return [line.split("\t") if line else [] for line in offered.read_text().splitlines()]
 
-    def told_by_fish(self, typed):
+    def told_by_fish(self, typed: typing.Iterable[tuple[str, ...]]) -> list[list[tuple[str, str]]]:
         """What fish offers, each word with what is said of it."""
         lines = [f"source {shlex.quote(str(self.share / 'fish' / 'vendor_completions.d' / f'{PROGRAM}.fish'))}"]
         for words in typed:
@@ -232,15 +239,15 @@ class Completions(Made):
         told = self.ran(["fish", "--no-config", "-c", "\n".join(lines)], cwd=self.place, env=os.environ | self.home())
         return [[line.partition("\t")[::2] for line in part.splitlines()] for part in told.split("=\n")[:-1]]
 
-    def by_fish(self, typed):
+    def by_fish(self, typed: typing.Iterable[tuple[str, ...]]) -> list[list[str]]:
         return [[word for word, _ in offered] for offered in self.told_by_fish(typed)]
 
-    def home(self):
+    def home(self) -> dict[str, str]:
         """What keeps a shell from the files of whoever runs the test."""
         places = dict.fromkeys(("HOME", "ZDOTDIR", "XDG_CONFIG_HOME", "XDG_DATA_HOME"), str(self.folder))
         return {**places, "TERM": "vt100", "INPUTRC": "/dev/null"}
 
-    def at_a_terminal(self, words, given, variables):
+    def at_a_terminal(self, words: list[str], given: bytes, variables: dict[str, str]) -> None:
         """Runs a shell that has a terminal, and types something there."""
         here, there = pty.openpty()
         command = ["timeout", "--foreground", str(harness.MOST_SECONDS), *words]
@@ -261,11 +268,11 @@ class Completions(Made):
         os.close(here)
         self.same(" ".join(words), child.returncode, 0)
 
-    def test_bash(self):
+    def test_bash(self) -> None:
         wanted("bash")
         self.look(self.by_bash)
 
-    def test_bash_words(self):
+    def test_bash_words(self) -> None:
         """Short options, and `--from=FILE`, of which bash makes three words."""
         wanted("bash")
         rows = [(name, options(name)) for name in COMMANDS]
@@ -273,7 +280,7 @@ class Completions(Made):
         typed = ("run", "--from", "=", "j"), ("run", "--from", "="), ("run", "--seed", "=", "7", "j"), ("run", "-", "j")
         self.same("=", self.by_bash(typed), [["journal"], FILES, ["journal"], []])
 
-    def test_bash_at_a_terminal(self):
+    def test_bash_at_a_terminal(self) -> None:
         """A line is completed as it is typed, and a space in the name of a file with it."""
         wanted("bash")
         typed = b"atomfs ou\t--so\tx a\t\natomfs run --from=j\to\t\nexit\n"
@@ -285,15 +292,15 @@ class Completions(Made):
         due = ["outcomes|--sometimes|x|a script", "run|--from=journal|other.script"]
         self.same(typed.decode(), (self.folder / "ran").read_text().splitlines(), due)
 
-    def test_zsh(self):
+    def test_zsh(self) -> None:
         wanted("zsh")
         self.look(self.by_zsh)
 
-    def test_fish(self):
+    def test_fish(self) -> None:
         wanted("fish")
         self.look(self.by_fish)
 
-    def test_sentences(self):
+    def test_sentences(self) -> None:
         """What is said of each command and of each option is the sentence of the help."""
         wanted("fish")
         offered = self.told_by_fish([("",), *((name, "--") for name in COMMANDS)])

@@ -16,6 +16,7 @@ import subprocess
 import sys
 import tempfile
 import time
+import typing
 import unittest
 
 import harness
@@ -116,24 +117,29 @@ Host *
 """
 
 
-def written(path, text):
+def written(path: pathlib.Path, text: str) -> pathlib.Path:
     """A program of a text."""
     path.write_text(text)
     path.chmod(0o755)
     return path
 
 
-def free_port():
+def free_port() -> int:
     with socket.socket() as one:
         one.bind(("127.0.0.1", 0))
-        return one.getsockname()[1]
+        port: int = one.getsockname()[1]
+        return port
 
 
 class Many(Case):
     """A test with the program, proved or not, at a path, in a folder of its own."""
 
+    folder: pathlib.Path
+    environment: dict[str, str]
+    program: str | pathlib.Path
+
     @classmethod
-    def setUpClass(cls):
+    def setUpClass(cls) -> None:
         if not harness.compares:
             raise unittest.SkipTest("nothing is asked of the program before there are answers")
         wanted("parallel")
@@ -153,7 +159,9 @@ class Many(Case):
                 cls.folder / "atomfs", f'#!/bin/sh\nexec {shlex.join(unproved.started("atomfs"))} "$@"\n'
             )
 
-    def came(self, command, *words, program=None, **more):
+    def came(
+        self, command: str, *words: str | pathlib.Path, program: str | pathlib.Path | None = None, **more: str
+    ) -> Outcome:
         """The outcome of a command of examples/many/."""
         environment = self.environment | {"ATOMFS": str(program or self.program)} | more
         done = subprocess.run(
@@ -165,13 +173,13 @@ class Many(Case):
         )
         return Outcome(done.returncode, done.stdout, done.stderr)
 
-    def one(self, first, last, program=None):
+    def one(self, first: int, last: int, program: str | pathlib.Path | None = None) -> Outcome:
         """The outcome of one run of the program over all seeds."""
         words = (program or self.program, "seeds", "--seed", str(first), "--runs", str(last - first + 1))
         done = subprocess.run(words, input=SCRIPT.read_bytes(), capture_output=True, timeout=harness.MOST_SECONDS)
         return Outcome(done.returncode, done.stdout, done.stderr)
 
-    def as_one(self, first, last, program=None):
+    def as_one(self, first: int, last: int, program: str | pathlib.Path | None = None) -> None:
         self.same(
             f"{first} to {last}",
             self.came("seeds", SCRIPT, str(first), str(last), program=program),
@@ -182,22 +190,22 @@ class Many(Case):
 class Seeds(Many):
     """`seeds` on the cores of this machine."""
 
-    def test_as_one(self):
+    def test_as_one(self) -> None:
         self.each((("cut", 1, 35), ("one seed", 7, 7), ("the greatest", GREATEST - 2, GREATEST)), self.as_one)
 
-    def test_killed(self):
+    def test_killed(self) -> None:
         """A piece that is killed half-way is done again."""
         self.as_one(1, 4, written(self.folder / "killed", KILLED.format(folder=self.folder, program=self.program)))
         self.same("whether one was killed", (self.folder / "second").exists(), True)
 
-    def test_fault(self):
+    def test_fault(self) -> None:
         """A verdict that is not lawful, which the proof excludes, is an answer, and its status that of the whole."""
         program = written(self.folder / "fault", FAULT)
         came = self.came("seeds", SCRIPT, "1", "4", program=program)
         self.same("1 to 4", came, self.one(1, 4, program))
         self.same("its status", came.status, 1)
 
-    def test_memory(self):
+    def test_memory(self) -> None:
         """Where there is no memory for a piece, those before it are written, and the status is 4."""
         status, output, message = self.came("seeds", SCRIPT, "1", "4", program=written(self.folder / "full", FULL))
         self.same("1 to 4", (status, output), (4, b"seed 1 lawful\nseed 2 lawful\n"))
@@ -207,12 +215,12 @@ class Seeds(Many):
             (1, b"examples/many/seeds: seed 3 and what follows is not done: no host did it"),
         )
 
-    def test_limits(self):
+    def test_limits(self) -> None:
         """The numbers of the program that `seeds` has."""
         (shown,) = re.findall(r"^SEED_LIMIT, RUN_LIMIT = (\S+), (\S+)$", (MANY / "seeds").read_text(), re.M)
         self.same("its limits", [int(number) for number in shown], [LIMITS["SEED_LIMIT"], LIMITS["RUN_LIMIT"]])
 
-    def test_script_from_a_pipe(self):
+    def test_script_from_a_pipe(self) -> None:
         """It is read once, and its bytes are those that are run, whatever becomes of the file meanwhile."""
         came = subprocess.run(
             ("bash", "-c", f"{MANY}/seeds <(cat {SCRIPT}) 1 4"),
@@ -221,12 +229,13 @@ class Seeds(Many):
         )
         self.same("a script from a pipe", Outcome(came.returncode, came.stdout, came.stderr), self.one(1, 4))
 
-    def test_stopped(self):
+    def test_stopped(self) -> None:
         """A signal ends it soon, and leaves no file."""
         left = self.folder / "temporary"
         left.mkdir()
         environment = self.environment | {"ATOMFS": str(written(self.folder / "slow", SLOW)), "TMPDIR": str(left)}
         with subprocess.Popen((MANY / "seeds", SCRIPT, "1", "4"), env=environment, stdout=subprocess.PIPE) as process:
+            assert process.stdout
             self.same("the first line", process.stdout.readline(), b"seed 1 lawful\n")
             # A job that parallel is about to start when the signal comes would go on to its own end.
             time.sleep(0.5)
@@ -238,7 +247,7 @@ class Seeds(Many):
             )
         self.same("what is left", list(left.iterdir()), [])
 
-    def test_output_that_is_full(self):
+    def test_output_that_is_full(self) -> None:
         with open("/dev/full", "wb") as full:
             done = subprocess.run(
                 (MANY / "seeds", SCRIPT, "1", "2"),
@@ -248,7 +257,7 @@ class Seeds(Many):
             )
         self.same("/dev/full", (done.returncode, done.stderr), (5, b"examples/many/seeds: write failed\n"))
 
-    def test_refused(self):
+    def test_refused(self) -> None:
         (self.folder / "nothing").mkdir()
         (self.folder / "wrong").write_text("atomfs 1\nmkdir /a\n")
         written(self.folder / "mute", "mute")
@@ -293,12 +302,12 @@ class Seeds(Many):
             self.refused,
         )
 
-    def refused(self, words, more, status, message):
+    def refused(self, words: typing.Sequence[str | pathlib.Path], more: typing.Any, status: int, message: str) -> None:
         came = self.came("seeds", *words, **more)
         self.same(words, (came.status, came.output, came.message.decode().splitlines()[0]), (status, b"", message))
         self.same("how often it is told", came.message.decode().count(message), 1)
 
-    def test_help(self):
+    def test_help(self) -> None:
         for command in ("seeds", "outcomes", "histories"):
             came = self.came(command, "--help")
             self.same(
@@ -307,7 +316,7 @@ class Seeds(Many):
                 (0, f"usage: examples/many/{command}".encode(), b""),
             )
 
-    def test_page(self):
+    def test_page(self) -> None:
         """The command that examples/README.md shows."""
         ((command, prints),) = (
             (spans(runs)[0], prints)
@@ -329,26 +338,26 @@ class Histories(Many):
     """`histories` answers what `linearize` answers of each, in their order, with the status of the first that is not lawful."""
 
     @classmethod
-    def setUpClass(cls):
+    def setUpClass(cls) -> None:
         super().setUpClass()
         for name, lines in HISTORIES.items():
             (cls.folder / name).write_text("".join(f"{line}\n" for line in lines))
 
-    def answered(self, names, status):
+    def answered(self, names: typing.Sequence[str], status: int) -> None:
         lines = "".join(f"{name}: {ANSWERS[name]}\n" for name in names).encode()
         self.same(names, self.came("histories", ":", *names), Outcome(status, lines))
 
-    def test_answers(self):
+    def test_answers(self) -> None:
         self.each(
             (("all", list(HISTORIES), 1), ("commit", ["commit", "first"], 3), ("lawful", ["last", "first"], 0)),
             self.answered,
         )
 
-    def test_in_pieces(self):
+    def test_in_pieces(self) -> None:
         """More than there are pieces."""
         self.answered([name for _ in range(7) for name in HISTORIES], 1)
 
-    def test_refused(self):
+    def test_refused(self) -> None:
         came = self.came("histories", ":", "first", "none")
         self.same(
             "a file that is not there",
@@ -360,28 +369,28 @@ class Histories(Many):
 class Outcomes(Many):
     """`outcomes` on the cores of this machine."""
 
-    def counted(self, first, last, program=None):
+    def counted(self, first: int, last: int, program: str | pathlib.Path | None = None) -> None:
         """It writes what one run of the program over all seeds writes."""
         words = (self.program, "outcomes", "--seed", str(first), "--runs", str(last - first + 1))
         done = subprocess.run(words, input=SCRIPT.read_bytes(), capture_output=True, timeout=harness.MOST_SECONDS)
         came = self.came("outcomes", SCRIPT, str(first), str(last), program=program)
         self.same(f"{first} to {last}", came, Outcome(done.returncode, done.stdout, done.stderr))
 
-    def test_as_one(self):
+    def test_as_one(self) -> None:
         self.each((("cut", 1, 70), ("one seed", 7, 7), ("the greatest", GREATEST - 2, GREATEST)), self.counted)
 
-    def test_killed(self):
+    def test_killed(self) -> None:
         """A piece that is killed half-way is done again, and counts once."""
         self.counted(1, 4, written(self.folder / "killed", KILLED.format(folder=self.folder, program=self.program)))
         self.same("whether one was killed", (self.folder / "second").exists(), True)
 
-    def test_refused(self):
+    def test_refused(self) -> None:
         (self.folder / "wrong").write_text("atomfs 1\nmkdir /a\n")
         came = self.came("outcomes", "wrong", "1", "100")
         wanted = Outcome(3, b"", b"atomfs: line 2: BadLine\n")
         self.same("a fault of the script", came, harness.with_line(wanted, b"atomfs 1\nmkdir /a\n"))
 
-    def test_limits(self):
+    def test_limits(self) -> None:
         """The numbers of the program that `outcomes` has."""
         (shown,) = re.findall(r"^SEED_LIMIT, RUN_LIMIT = (\S+), (\S+)$", (MANY / "outcomes").read_text(), re.M)
         self.same(
@@ -394,8 +403,11 @@ class Outcomes(Many):
 class OnHosts(Many):
     """By ssh, on two servers of this machine and on a port that nobody listens to."""
 
+    ports: dict[str, int]
+    servers: dict[str, subprocess.Popen[bytes]]
+
     @classmethod
-    def setUpClass(cls):
+    def setUpClass(cls) -> None:
         super().setUpClass()
         wanted("rsync", "ssh", "sshd")
         cls.ports = {name: free_port() for name in ("one", "two", "silent")}
@@ -406,7 +418,7 @@ class OnHosts(Many):
         cls.servers = {name: cls.served(name) for name in ("one", "two")}
 
     @classmethod
-    def served(cls, name):
+    def served(cls, name: str) -> subprocess.Popen[bytes]:
         """A server of its own, once it answers."""
         home, config = cls.folder / f"home_{name}", cls.folder / f"server_{name}"
         home.mkdir()
@@ -433,10 +445,10 @@ class OnHosts(Many):
             time.sleep(0.1)
         raise unittest.SkipTest(f"no ssh server can be had: {(cls.folder / f'log_{name}').read_text()[-500:]}")
 
-    def left(self):
+    def left(self) -> list[str]:
         return [str(path) for path in self.folder.glob("home_one/**/*") if path.is_file()]
 
-    def test_lost(self):
+    def test_lost(self) -> None:
         """A host is lost in the middle, and another one does not answer; nothing is left on the host that did all."""
         (self.folder / "hosts").write_text("# Three hosts.\n1/silent\n1/two\n1/one\n")
         program = written(
@@ -455,7 +467,7 @@ class OnHosts(Many):
         )
         self.same("what is left on the other", self.left(), [])
 
-    def test_histories(self):
+    def test_histories(self) -> None:
         """Some on a host, and some on this machine."""
         for name in ("first", "commit"):
             (self.folder / name).write_text("".join(f"{line}\n" for line in HISTORIES[name]))
@@ -463,7 +475,7 @@ class OnHosts(Many):
         self.same("two histories", came, Outcome(3, b"first: lawful\ncommit: line 3: BadLine\n"))
         self.same("what is left on the host", self.left(), [])
 
-    def test_nobody(self):
+    def test_nobody(self) -> None:
         came = self.came("seeds", "1/silent", SCRIPT, "1", "3")
         self.same(
             "1 to 3",

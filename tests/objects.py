@@ -1,17 +1,18 @@
-"""`--json` of `check`, `outcomes`, `find` and `seeds`: each line is an object, and has what the line in words has.
+"""`--json` of `check`, `outcomes`, `find`, `seeds` and `trace`: each line is an object, and has what the line in words has.
 
 What the words are is looked at in the tests of each command; here what `--json` writes is compared with them, byte for byte.
 """
 import json
 import random
+import re
 import unittest
-from typing import Callable, Sequence
+from typing import Callable, Iterator, Sequence
 
 import drawn
 import harness
-from harness import Case, Outcome, asks_of_answers, run
+from harness import DATA, ROOT, Case, Outcome, asks_of_answers, run
 
-SCRIPTS, RUNS = 60, 8
+SCRIPTS, TIMES = 60, 8
 # Scripts of the third limits, behind these.
 LISTING = 12
 DRAWN = drawn.narrow, drawn.moving, drawn.exchanging, drawn.crowded
@@ -22,6 +23,12 @@ BYTES = (
     + bytes(byte for byte in range(256) if byte != 10)
     + b'\nthread m\nmkdir /"\\"\nreaddir /\nthread r\nrmdir /"\\"\nschedule\nfinish\n'
 )
+# Its own schedule comes to checkpoints before the first event, at one place, and after the last event.
+PIECES = b"atomfs 1\nthread t\nmkdir /a\nschedule\n!checkpoint t*7 !checkpoint !checkpoint\n"
+# Two calls are pending, and others have not begun. One is pending at a checkpoint.
+LEFT = b"atomfs 1\nthread m\nmkdir /a\nmkdir /a/d\nthread r\nmknod /x\nstat /a\nthread w\nmkdir /q\nschedule\nm*4 r*3\n"
+UNDER_WAY = b"atomfs 1\nthread m\nmkdir /a\nschedule\nm*2 !checkpoint finish\n"
+CHECKPOINT = "checkpoint, the next call is call 1"
 SHORT = {'"': '\\"', "\\": "\\\\", "\n": "\\n"}
 
 
@@ -71,6 +78,75 @@ def of_row(line: str, tree: str) -> dict[str, object]:
     }
 
 
+# What a line of a trace says of an event behind its call, with the members of its object. A path has no spaces.
+NODE = r"(/\S*?)"
+SAID = {
+    "begins": (rf"begins (.+), call (\d+)", ("words", "number")),
+    "locks": (rf"locks {NODE}", ("path",)),
+    "waits": (rf"waits for {NODE} held by (\S+)", ("path", "holder")),
+    "unlocks": (rf"unlocks {NODE}(?:, locked as {NODE})?", ("path", "locked_as")),
+    "removed": (rf"unlocks {NODE}, removed", ("locked_as",)),
+    "helps": (rf"helps (\S+), commits it at {NODE}", ("helped", "path")),
+    "returns": (r"returns (.+)", ("reply",)),
+}
+CHANGED = re.compile(
+    rf"(commits|makes its change), (?:(changes nothing|answers)|(fails) (\w+)|(\w+) {NODE}(?: (to|over|with) {NODE})?)"
+)
+
+
+def of_deed(said: str) -> dict[str, object]:
+    """What the object of an event has behind its call, by the words of the line."""
+    changed = CHANGED.fullmatch(said)
+    if changed:
+        did, alone, fails, error, change, path, joint, second = changed.groups()
+        members = {"did": did, "change": alone or fails or change, "path": path, joint or "": second, "error": error}
+        return {name: member for name, member in members.items() if member}
+    for did, (form, names) in reversed(SAID.items()):
+        found = re.fullmatch(form, said)
+        if found and did == "removed":
+            return {"did": "unlocks", "path": None, "locked_as": found[1]}
+        if found:
+            return {"did": did, **{name: member for name, member in zip(names, found.groups()) if member}}
+    raise ValueError(f"no line of a trace: {said}")
+
+
+def of_moment(line: str) -> dict[str, object]:
+    """The object of a line of a trace above its tree."""
+    if line == CHECKPOINT:
+        return {"did": "checkpoint"}
+    first, who, said = line.split(" ", 2) if line.count(" ") > 1 else (*line.split(" "), "")
+    thread, _, place = who.partition("#")
+    if first == "thread":
+        return {"thread": who, "did": "starts"}
+    if first == "left":
+        words = said if place else said.removeprefix("unbegun ")
+        return {"thread": thread, "did": f"has not {'returned' if place else 'begun'}", "call": who, "words": words}
+    if said == "has nothing left":
+        return {"event": int(first), "thread": who, "did": said}
+    told = of_deed(said)
+    if "number" in told:
+        told = {"did": told["did"], "number": int(str(told["number"])), "words": told["words"]}
+    return {"event": int(first), "thread": thread, "did": told.pop("did"), "call": who, **told}
+
+
+def of_trace(text: bytes) -> Iterator[dict[str, object]]:
+    """The objects of a trace: one of each line, and one of its tree and its counts; of a run that was refused none."""
+    if not text:
+        return
+    head, tree, end = text.decode().partition("tree\n")
+    begun: dict[str, int] = {}
+    for line in head.splitlines()[1:]:
+        told = of_moment(line)
+        thread = str(told.get("thread"))
+        begun[thread] = begun.get(thread, 0) + (told["did"] in ("begins", "has not begun"))
+        if told["did"] == "has not begun":
+            told["call"] = f"{thread}#{begun[thread]}"
+        yield told
+    *nodes, counts = end.splitlines(keepends=True)
+    numbers = dict(zip(counts.split()[::2], map(int, counts.split()[1::2])))
+    yield {"did": "ends", "tree": tree + "".join(nodes), **numbers}
+
+
 def rows_of(text: bytes) -> list[list[str]]:
     """The lines of `outcomes`, each with its tree behind it."""
     rows: list[list[str]] = []
@@ -115,7 +191,7 @@ class Objects(Case):
 
     def test_seeds(self) -> None:
         def look(number: int) -> None:
-            seeds = "seeds", "--seed", str(number), "--runs", str(RUNS)
+            seeds = "seeds", "--seed", str(number), "--runs", str(TIMES)
             self.ends_alike(
                 script_of(number),
                 seeds,
@@ -134,7 +210,7 @@ class Objects(Case):
                 "--seed",
                 str(number),
                 "--runs",
-                str(RUNS),
+                str(TIMES),
                 *(word for word in ("--all", "--trees") if draw.randrange(2)),
             )
             self.ends_alike(
@@ -149,7 +225,7 @@ class Objects(Case):
 
         def look(number: int) -> None:
             pieces = b"".join(
-                run(script_of(number), "outcomes", "--seed", seed, "--runs", str(RUNS), "--all").output
+                run(script_of(number), "outcomes", "--seed", seed, "--runs", str(TIMES), "--all").output
                 for seed in ("1", "100")
             )
             for words in ((), ("--all",)):
@@ -178,6 +254,35 @@ class Objects(Case):
             for no in ("", "not ")
         ]
         self.each((*scripts, ("bytes", BYTES, "reply r#1 failed"), ("other bytes", BYTES, 'tree dir /"\\"')), look)
+
+    def test_trace(self) -> None:
+        """Of each worked script by each schedule, with every event and without; of drawn ones, of names that are escaped, and where calls are left."""
+
+        def look(given: bytes, *words: str) -> None:
+            self.ends_alike(given, ("trace", *words), lambda plain: objects(*of_trace(plain.output)))
+
+        folders = DATA / "worked" / "runs", ROOT / "examples"
+        given = [(path.name, path.read_bytes()) for folder in folders for path in sorted(folder.glob("*.script"))]
+        given += [(f"script_{number}", script_of(number)) for number in range(SCRIPTS + LISTING)]
+        given += [("bytes", BYTES), ("pieces", PIECES), ("left", LEFT), ("under_way", UNDER_WAY)]
+        words = ((), ("--every",), ("--robin",), ("--seed", "7"), ("--every", "--seed", "8"))
+        self.each(
+            [(f"{name}_{'_'.join(more)}", text, *more) for name, text in given for more in words],
+            look,
+        )
+
+    def test_example_of_the_page(self) -> None:
+        """docs/PICTURES.md has two lines of a worked script."""
+        page = (ROOT / "docs" / "PICTURES.md").read_text()
+        shown = re.findall(r"^\{.*\}$", page, re.M)
+        told = run((DATA / "worked" / "runs" / "helped_mkdir.script").read_bytes(), "trace", "--json")
+        if harness.compares:
+            lines = told.output.decode().splitlines()
+            self.same("docs/PICTURES.md", (len(shown), [line for line in lines if line in shown]), (2, shown))
+
+    def test_a_journal_is_not_traced(self) -> None:
+        """The objects of a trace are of a script: a journal is refused as where it is to be run."""
+        self.same(WRONG.decode(), run(WRONG, "trace", "--json"), run(WRONG, "run"))
 
     def test_faults(self) -> None:
         """What cannot be read is told as without, and no object is written."""

@@ -4,6 +4,7 @@ What is drawn stands in tests/drawn.py.
 """
 import hashlib
 import random
+import typing
 import unittest
 
 import drawn
@@ -18,13 +19,17 @@ GREATEST = constants("fs_sched/src/seeding.rt")["SEED_LIMIT"]
 # A name `|` in a listing, and threads whose names begin the names of others.
 BARS = b"atomfs 1\nthread a\nmkdir /|\nmkdir /~b#1\nreaddir /\nthread a_1\nmkdir /a#1\nreaddir /\nthread b\nschedule\na !checkpoint finish\n"
 BARE = b"atomfs 1\nthread a\nschedule\nfinish\n"
+# What each call replied, by its name, and the tree; and an end with how often it came and its least seed.
+End = tuple[tuple[tuple[str, str], ...], str]
+Row = tuple[int, int, tuple[tuple[str, str], ...], str]
 
 
-def end_of(text, script):
+def end_of(text: bytes, script: bytes) -> End:
     """What each call of a script replied, by its name, and the lines of the tree, of a run text."""
     journal, _, rest = text.decode().partition("tree\n")
     tree = "".join(f"{line}\n" for line in ["tree", *rest.splitlines()[:-1]])
-    calls, replies = {}, {}
+    calls: dict[int, list[str]] = {}
+    replies: dict[str, str] = {}
     for line in journal.splitlines():
         word, *more = line.split(" ")
         if word == "begin":
@@ -44,16 +49,16 @@ def end_of(text, script):
     return told, tree
 
 
-def table(ends):
+def table(ends: typing.Iterable[tuple[int, End]]) -> list[Row]:
     """The rows of the ends by seed: how often, the least seed, and the end."""
-    rows = {}
+    rows: dict[End, tuple[int, int]] = {}
     for seed, end in ends:
         times, least = rows.get(end, (0, seed))
         rows[end] = (times + 1, min(least, seed))
     return sorted(((times, seed, *end) for end, (times, seed) in rows.items()), key=lambda row: (-row[0], row[1]))
 
 
-def lines(rows, every=False, trees=False):
+def lines(rows: typing.Sequence[Row], every: bool = False, trees: bool = False) -> bytes:
     """How rows are written."""
     differ = [every or len({row[2][place] for row in rows}) > 1 for place in range(len(rows[0][2]))]
     text = ""
@@ -64,12 +69,12 @@ def lines(rows, every=False, trees=False):
     return text.encode()
 
 
-def asked(script, seed, runs, *words):
+def asked(script: bytes, seed: int, runs: int, *words: str) -> Outcome:
     return run(script, "outcomes", "--seed", str(seed), "--runs", str(runs), *words)
 
 
 class Outcomes(Case):
-    def wanted(self, script, seed, runs):
+    def wanted(self, script: bytes, seed: int, runs: int) -> list[Row]:
         """The table of a loop over `atomfs run`."""
         return table(
             [
@@ -78,16 +83,16 @@ class Outcomes(Case):
             ]
         )
 
-    def look(self, script, seed, runs, *words):
+    def look(self, script: bytes, seed: int, runs: int, *words: str) -> None:
         rows = self.wanted(script, seed, runs)
         self.same(
             script, asked(script, seed, runs, *words), Outcome(0, lines(rows, "--all" in words, "--trees" in words))
         )
 
-    def test_drawn_scripts(self):
+    def test_drawn_scripts(self) -> None:
         """A line for each end, in order, with the replies that differ."""
 
-        def rows():
+        def rows() -> typing.Iterator[tuple[typing.Any, ...]]:
             for number in range(rows_of(SCRIPTS)):
                 draw = random.Random(number)
                 script = drawn.script(DRAWN[number % len(DRAWN)](draw)).encode()
@@ -101,7 +106,7 @@ class Outcomes(Case):
 
         self.each(rows(), self.look)
 
-    def test_forms(self):
+    def test_forms(self) -> None:
         """Each form of the lines; threads without calls, listings whose names look like lines, and the greatest seed."""
         forms = (), ("--all",), ("--trees",), ("--trees", "--all")
         given = (
@@ -112,13 +117,13 @@ class Outcomes(Case):
         )
         self.each(((f"{name} {' '.join(form)}", *more, *form) for name, *more in given for form in forms), self.look)
 
-    def test_many_runs(self):
+    def test_many_runs(self) -> None:
         """The counts of a thousand runs add up, and the most runs are a million."""
         came = asked(BARS, 0, 1_000, "--all").output.decode().splitlines()
         self.same(BARS, sum(int(line.split()[0]) for line in came), 1_000)
 
 
-def told(*lines):
+def told(*lines: str) -> bytes:
     return "".join(f"{line}\n" for line in lines).encode()
 
 
@@ -188,14 +193,14 @@ BAD = {
 class Added(Case):
     """`atomfs outcomes --add`."""
 
-    def test_lines(self):
-        def look(given, few, every):
+    def test_lines(self) -> None:
+        def look(given: typing.Sequence[str], few: typing.Sequence[str], every: typing.Sequence[str]) -> None:
             self.same(given, run(told(*given), "outcomes", "--add"), Outcome(0, told(*few)))
             self.same(given, run(told(*given), "outcomes", "--add", "--all"), Outcome(0, told(*every)))
 
         self.each(((name, *rows) for name, rows in ADDED.items()), look)
 
-    def test_bad_lines(self):
+    def test_bad_lines(self) -> None:
         """The line is told, and nothing is written."""
         self.each(
             ((name, *rows) for name, rows in BAD.items()),
@@ -204,11 +209,11 @@ class Added(Case):
             ),
         )
 
-    def test_pieces(self):
+    def test_pieces(self) -> None:
         """What pieces of a range wrote is added up to what one command writes of the whole."""
         asks_of_answers()
 
-        def look(script, seed, cuts):
+        def look(script: bytes, seed: int, cuts: typing.Sequence[int]) -> None:
             pieces = b"".join(
                 asked(script, start, end - start, "--all").output
                 for start, end in zip((seed, *cuts), (*cuts, seed + RUNS))
@@ -216,7 +221,7 @@ class Added(Case):
             for words in ((), ("--all",)):
                 self.same(script, run(pieces, "outcomes", "--add", *words), asked(script, seed, RUNS, *words))
 
-        def rows():
+        def rows() -> typing.Iterator[tuple[typing.Any, ...]]:
             for number in range(SCRIPTS):
                 draw = random.Random(number)
                 script = drawn.script(DRAWN[number % len(DRAWN)](draw)).encode()

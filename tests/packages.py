@@ -14,13 +14,14 @@ import subprocess
 import sys
 import tempfile
 import types
+import typing
 import unittest
 import unittest.mock
 import zipfile
 
 import harness
 from documents import PACKAGES, blocks, constants, spans
-from harness import ROOT, Case
+from harness import ROOT, Case, match_in
 from website import has_markdown
 
 BINDINGS, EMBED, CRATES = ROOT / "bindings", ROOT / "embed", ROOT / "crates"
@@ -67,8 +68,11 @@ ELSEWHERE = (
     "CARGO_TARGET_DIR",
 )
 
+# The words of a command.
+Words = typing.Sequence[str | pathlib.Path]
 
-def done(words, folder, **more):
+
+def done(words: Words, folder: str | pathlib.Path, **more: str) -> tuple[int, str]:
     """What a command ends with and tells."""
     variables = {name: value for name, value in os.environ.items() if name not in ELSEWHERE}
     ran = subprocess.run(
@@ -77,7 +81,7 @@ def done(words, folder, **more):
     return ran.returncode, ran.stdout + ran.stderr
 
 
-def wanted(*commands):
+def wanted(*commands: str) -> None:
     """Leaves a test out for want of a command."""
     for command in commands:
         if not shutil.which(command) and not shutil.which(command, path="/usr/sbin"):
@@ -85,7 +89,7 @@ def wanted(*commands):
 
 
 @functools.cache
-def missing(python):
+def missing(python: str) -> list[str]:
     """The modules that a Python has not; all of them where there is no such Python."""
     ask = (
         f"import importlib.util\nprint(*(name for name in {tuple(MODULES)} if importlib.util.find_spec(name) is None))"
@@ -97,7 +101,7 @@ def missing(python):
     return list(MODULES)
 
 
-def python():
+def python() -> str:
     """A Python that has what the package and its tests use: $PYTHON, python3, or Debian's own."""
     debians = "/usr/bin/python3"
     for found in filter(None, (os.environ.get("PYTHON"), shutil.which("python3"), debians)):
@@ -110,7 +114,7 @@ def python():
 
 
 @functools.cache
-def archive():
+def archive() -> pathlib.Path:
     """The archive, which is to be no older than what it is made of."""
     harness.library()
     name = f"atomfs-{VERSION}-{os.uname().machine}-linux"
@@ -131,27 +135,30 @@ def archive():
 class Installed(Case):
     """A test in a folder with the archive unpacked at `prefix`."""
 
+    folder: pathlib.Path
+    prefix: pathlib.Path
+
     @classmethod
-    def setUpClass(cls):
+    def setUpClass(cls) -> None:
         made = archive()
         cls.folder = pathlib.Path(tempfile.mkdtemp(prefix="atomfs-packages-"))
         cls.addClassCleanup(shutil.rmtree, cls.folder)
         shutil.unpack_archive(made, cls.folder)
         (cls.prefix,) = cls.folder.iterdir()
 
-    def ends(self, words, folder=None, pattern="", **more):
+    def ends(self, words: Words, folder: pathlib.Path | None = None, pattern: str = "", **more: typing.Any) -> str:
         """A command ends with status 0, and tells something of this form."""
-        words = [str(word) for word in words]
-        status, told = done(words, folder or self.folder, **more)
+        typed = [str(word) for word in words]
+        status, told = done(typed, folder or self.folder, **more)
         if status or not re.search(pattern, told):
-            self.fail(f"{' '.join(words)}: status {status}, and not /{pattern}/\n{told[-8_000:]}")
+            self.fail(f"{' '.join(typed)}: status {status}, and not /{pattern}/\n{told[-8_000:]}")
         return told
 
-    def copied(self, source, name):
+    def copied(self, source: pathlib.Path, name: str) -> pathlib.Path:
         return pathlib.Path(shutil.copytree(source, self.folder / name))
 
 
-def crate_at(folder):
+def crate_at(folder: pathlib.Path) -> pathlib.Path:
     """The crate for Rust in a folder of its own, with the page that plays runs, as embed/package puts it there."""
     shutil.copytree(BINDINGS / "rust", folder, ignore=shutil.ignore_patterns("target"))
     shutil.copy(BINDINGS / "python" / "src" / "atomfs" / "run.html", folder / "src")
@@ -159,7 +166,7 @@ def crate_at(folder):
 
 
 class OfTheArchive(Installed):
-    def test_files(self):
+    def test_files(self) -> None:
         """It has the library, its header, what CMake and pkg-config read, the program, the wheel, the crate, and the pages that the header names."""
         self.same(archive().name, self.prefix.name, archive().name.removesuffix(".tar.gz"))
         for name in (
@@ -191,12 +198,12 @@ class OfTheArchive(Installed):
             first = self.prefix / "share" / "doc" / "atomfs" / "index.html"
             self.same("the pages for a browser", first.is_file(), True)
 
-    def test_no_paths(self):
+    def test_no_paths(self) -> None:
         """No file of it names the folder where it was built."""
         files = [path for path in self.prefix.rglob("*") if path.is_file()]
         self.same("the archive", [path.name for path in files if str(ROOT).encode() in path.read_bytes()], [])
 
-    def test_install_over_what_runs(self):
+    def test_install_over_what_runs(self) -> None:
         """`embed/package --prefix` puts it anew where a program of the folder runs, and that goes on with what it has."""
         checkout, into = self.folder / "checkout", self.folder / "into"
         for part in ("embed", "bindings", "docs", "tests/data/help"):
@@ -208,7 +215,7 @@ class OfTheArchive(Installed):
         for part in ("lib", "include", "bin"):
             shutil.copytree(self.prefix / part, checkout / "dist" / part, symlinks=True)
         shutil.copy(ROOT / "CHANGELOG.md", checkout)
-        install = [checkout / "embed" / "package", "--prefix", into]
+        install: Words = checkout / "embed" / "package", "--prefix", into
         self.ends(install, pattern="(?m)^installed: ")
         with subprocess.Popen([into / "bin" / "atomfs", "run"], stdin=subprocess.PIPE, stdout=subprocess.PIPE) as runs:
             self.ends(install, pattern="(?m)^installed: ")
@@ -219,7 +226,7 @@ class OfTheArchive(Installed):
             (0, b"atomfs-journal 1\ntree\ndir /\nbegun 0 committed 0 returned 0\n"),
         )
 
-    def test_program(self):
+    def test_program(self) -> None:
         self.same(
             "atomfs --version",
             done([self.prefix / "bin" / "atomfs", "--version"], self.folder),
@@ -228,7 +235,7 @@ class OfTheArchive(Installed):
 
 
 class ForC(Installed):
-    def test_cmake(self):
+    def test_cmake(self) -> None:
         """A project out of tree finds the package, and runs with the shared object and with the archive."""
         wanted("cmake", "make", "cc")
         example, build = self.copied(BINDINGS / "c" / "example", "example"), self.folder / "build"
@@ -257,7 +264,7 @@ class ForC(Installed):
             with self.subTest(asked):
                 self.look_at_version(asked, found)
 
-    def look_at_version(self, asked, found):
+    def look_at_version(self, asked: str, found: bool) -> None:
         """Whether a project that asks for a version finds the package."""
         project = self.folder / f"project-{asked}"
         project.mkdir()
@@ -270,9 +277,9 @@ class ForC(Installed):
         )
         self.same(f"find_package(atomfs {asked})", status == 0 or told, found or told)
 
-    def test_pkg_config(self):
+    def test_pkg_config(self) -> None:
         wanted("pkg-config", "cc")
-        where = {"PKG_CONFIG_PATH": str(self.prefix / "lib" / "pkgconfig")}
+        where: dict[str, typing.Any] = {"PKG_CONFIG_PATH": str(self.prefix / "lib" / "pkgconfig")}
         self.same(
             "pkg-config --modversion atomfs",
             done(["pkg-config", "--modversion", "atomfs"], self.folder, **where),
@@ -294,7 +301,7 @@ class ForC(Installed):
         ran = done([self.folder / "by_pkg_config"], self.folder, LD_LIBRARY_PATH=str(self.prefix / "lib"))
         self.same("the example, built by pkg-config", ran, (0, "hello\n"))
 
-    def test_installed_page(self):
+    def test_installed_page(self) -> None:
         """The command that the archive's page has for pkg-config, as it is typed there: what it makes finds the shared object by itself."""
         wanted("pkg-config", "cc")
         page = (self.prefix / "share" / "atomfs" / "README.md").read_text()
@@ -312,7 +319,7 @@ class ForC(Installed):
 class ForPython(Installed):
     """The wheel of the archive and the package of the checkout, each in a new environment, with the tests of the package."""
 
-    def test_wheel(self):
+    def test_wheel(self) -> None:
         found = python()
         (wheel,) = (self.prefix / "share" / "atomfs").glob("*.whl")
         installed = self.installed(found, "by_wheel", wheel)
@@ -327,7 +334,8 @@ class ForPython(Installed):
             installed,
             "extension" if self.takes_extension(found) else "ctypes: the extension is for CPython 3.11 and later",
         )
-        for words in ([installed, "-m", "atomfs"], [installed.with_name("atomfs")]):
+        programs: tuple[Words, ...] = (installed, "-m", "atomfs"), (installed.with_name("atomfs"),)
+        for words in programs:
             self.same("the program of the wheel", done([*words, "--version"], self.folder), (0, f"atomfs {VERSION}\n"))
         (example,) = blocks(PACKAGES["python"], "python")
         self.same("the example of its page", done([installed, "-c", example], self.folder), (0, "hello\nlawful\n"))
@@ -339,7 +347,7 @@ class ForPython(Installed):
         skipped = re.findall(r"^(test_\w+) .*\.\.\. skipped (?!.*apt-get install)", told, re.M)
         self.same("the tests that its page lists as left out", sorted(listed), sorted(skipped))
 
-    def test_platform(self):
+    def test_platform(self) -> None:
         """The wheel is for every Linux whose C library has the symbols of the shared object and the program, as `objdump` tells them."""
         (wheel,) = (self.prefix / "share" / "atomfs").glob("*.whl")
         with zipfile.ZipFile(wheel) as files:
@@ -355,14 +363,14 @@ class ForPython(Installed):
         self.assertIn(f"Tag: py3-none-{wheel.stem.split('-none-')[1]}\n", told)
 
     @staticmethod
-    def platform(*paths):
+    def platform(*paths: typing.Any) -> str:
         symbols = subprocess.run(["objdump", "-T", *paths], capture_output=True, text=True, check=True).stdout
         major, minor = max(
             (int(major), int(minor)) for major, minor in re.findall(r"\(GLIBC_(\d+)\.(\d+)[.\d]*\)", symbols)
         )
         return f"manylinux_{major}_{minor}_{os.uname().machine}"
 
-    def test_platform_of_others(self):
+    def test_platform_of_others(self) -> None:
         """A shared object with a newer symbol is for newer systems; one that needs another library is for none but those like this one."""
         wanted("cc")
         ask = (
@@ -370,7 +378,7 @@ class ForPython(Installed):
             "spec.loader.exec_module(made); print(made.platform(pathlib.Path(sys.argv[2]), 'linux_' + sys.argv[3]))"
         )
         of_build = f"linux_{os.uname().machine}"
-        for name, text, flags in (
+        rows: tuple[tuple[str, str, Words], ...] = (
             ("random", "#include <sys/random.h>\nlong f(void *p) { return getrandom(p, 1, 0); }\n", []),
             (
                 "copy",
@@ -378,7 +386,8 @@ class ForPython(Installed):
                 [],
             ),
             ("other", "int f(void) { return 1; }\n", ["-Wl,--no-as-needed", "-L", self.folder, "-l:libother.so"]),
-        ):
+        )
+        for name, text, flags in rows:
             with self.subTest(name):
                 source, made = self.folder / f"{name}.c", self.folder / f"lib{name}.so"
                 source.write_text(text)
@@ -393,7 +402,7 @@ class ForPython(Installed):
                     (0, f"{of_build if name == 'other' else self.platform(made)}\n"),
                 )
 
-    def test_sources(self):
+    def test_sources(self) -> None:
         """The package is built and installed from its sources, offline."""
         library = str(self.prefix / "lib" / "libatomfs.so")
         installed = self.installed(
@@ -416,7 +425,7 @@ class ForPython(Installed):
         if self.takes_extension(python()):
             self.binds(installed, "extension")
 
-    def test_no_compiler(self):
+    def test_no_compiler(self) -> None:
         """Without a compiler, or without the header, the package is built all the same: calls go by ctypes, and it says so."""
         if not self.takes_extension(python()):
             self.skipTest("the extension is for CPython 3.11 and later")
@@ -442,12 +451,12 @@ class ForPython(Installed):
                     (0, "ctypes: the package is not built, or was built without a compiler\n"),
                 )
 
-    def takes_extension(self, found):
+    def takes_extension(self, found: str) -> bool:
         """Whether a Python takes the extension."""
         ask = "import sys, sysconfig; print(sys.version_info >= (3, 11) and not sysconfig.get_config_var('Py_GIL_DISABLED'))"
         return done([found, "-c", ask], self.folder) == (0, "True\n")
 
-    def binds(self, installed, wanted):
+    def binds(self, installed: pathlib.Path, wanted: str) -> None:
         """By what the calls of an installed package go to the library."""
         self.same(
             "the binding",
@@ -455,12 +464,10 @@ class ForPython(Installed):
             (0, f"{wanted}\n"),
         )
 
-    def test_types(self):
+    def test_types(self) -> None:
         """The types of the package are right for the least Python that it is for."""
         wanted("mypy")
-        least = re.search(r'^requires-python = ">=(.*)"$', (BINDINGS / "python" / "pyproject.toml").read_text(), re.M)[
-            1
-        ]
+        least = match_in(r'^requires-python = ">=(.*)"$', (BINDINGS / "python" / "pyproject.toml").read_text(), re.M)[1]
         words = (
             "mypy",
             "--strict",
@@ -472,28 +479,28 @@ class ForPython(Installed):
         )
         self.ends(words, pattern="^Success: ")
 
-    def test_no_library(self):
+    def test_no_library(self) -> None:
         """Without the shared object the build says what is missing."""
         status, told = done([python(), "setup.py", "bdist_wheel"], self.copied(BINDINGS / "python", "alone"))
         self.assertNotEqual(status, 0)
         self.assertIn("embed/build makes it, and ATOMFS_LIBRARY names it", told)
 
-    def installed(self, found, name, package, **more):
+    def installed(self, found: str, name: str, package: pathlib.Path, **more: typing.Any) -> pathlib.Path:
         """The Python of a new environment in which a package was installed."""
         self.ends([found, "-m", "venv", "--system-site-packages", "--without-pip", self.folder / name])
-        new = self.folder / name / "bin" / "python"
+        new: pathlib.Path = self.folder / name / "bin" / "python"
         words = "-m", "pip", "install", "--no-index", "--no-build-isolation", "--no-cache-dir", package
         self.ends([new, *words], pattern="Successfully installed atomfs", **more)
         return new
 
-    def passes(self, new, **more):
+    def passes(self, new: pathlib.Path, **more: typing.Any) -> str:
         """What the tests of the package tell."""
         words = "-W", "ignore", "-m", "unittest", "discover", "-v", "-s", BINDINGS / "python" / "tests"
         return self.ends([new, *words], pattern=r"(?m)^OK", PYTHONDONTWRITEBYTECODE="1", **more)
 
 
 class ForRust(Installed):
-    def test_crate(self):
+    def test_crate(self) -> None:
         """The crate of the archive finds the library beside it; its tests and the examples of its pages pass. With the package for Python beside it they
         compare their pages."""
         wanted("cargo", "cc")
@@ -505,7 +512,7 @@ class ForRust(Installed):
         ]
         self.assertTrue(len(passed) >= 4 and sum(count > 0 for count in passed) >= 3, told)
 
-    def test_clippy(self):
+    def test_clippy(self) -> None:
         """Rust's own linter has nothing to say of the crate, its tests and its examples, and each unsafe block has its reason."""
         wanted("cargo", "cargo-clippy")
         crate = self.prefix / "share" / "atomfs" / "rust"
@@ -518,7 +525,7 @@ class ForRust(Installed):
             CARGO_TARGET_DIR=str(self.folder / "clippy"),
         )
 
-    def test_no_library(self):
+    def test_no_library(self) -> None:
         """Without the library the build says what is missing."""
         wanted("cargo")
         crate = crate_at(self.folder / "rust")
@@ -534,33 +541,13 @@ class ForRust(Installed):
 
 class Layout(Case):
     """The sources in Rust, Python and C are laid out by rustfmt, black and clang-format, with one line length: by rustfmt.toml, .clang-format and the tables
-    in pyproject.toml. Another version than the one named here may lay out otherwise, and is not asked. What the tests share has types, and so have many
-    of the tests.
+    in pyproject.toml. Another version than the one named here may lay out otherwise, and is not asked. The tests
+    have types.
     """
 
     VERSIONS = {"black": "23.1", "clang-format": "14.0"}
-    # The modules of tests/ that are typed. None goes from here, and a further one comes where it has its types.
-    TYPED = (
-        *(
-            "atomfs",
-            "checkpoints",
-            "costs",
-            "devices",
-            "drawn",
-            "events",
-            "find",
-            "grammar",
-            "harness",
-            "kernel",
-            "litmus",
-        ),
-        *("model", "objects", "progress", "replay", "schedules", "scripts", "shrink", "standin"),
-    )
 
-    # Those of bindings/python/tests, without `test_`.
-    TYPED_OF_PYTHON = "docs", "outcomes", "pauses", "plugin", "program", "slices"
-
-    def formatter(self, command):
+    def formatter(self, command: str) -> str:
         """A formatter of the version by which the sources are laid out."""
         wanted(command)
         _, told = done([command, "--version"], ROOT)
@@ -569,14 +556,14 @@ class Layout(Case):
         return command
 
     @staticmethod
-    def sources():
+    def sources() -> typing.Iterator[pathlib.Path]:
         """The files of the repository, but for crates and what is built."""
         left_out = "crates", "out", "dist", "target", "build", "__pycache__"
         for folder, folders, names in os.walk(ROOT):
             folders[:] = [name for name in folders if not name.startswith(".") and name not in left_out]
             yield from (pathlib.Path(folder, name) for name in sorted(names))
 
-    def test_black(self):
+    def test_black(self) -> None:
         command = self.formatter("black")
         written = [path for path in self.sources() if path.suffix in (".py", ".pyi") or self.is_script(path)]
         for folder in (BINDINGS / "python", ROOT):
@@ -584,35 +571,37 @@ class Layout(Case):
             self.same(f"black in {folder}", done([command, "--check", "--quiet", *files], folder), (0, ""))
 
     @staticmethod
-    def is_script(path):
+    def is_script(path: pathlib.Path) -> bool:
         """Whether a file without a name's end is a program in Python."""
         with path.open("rb") as file:
             return not path.suffix and file.readline().endswith(b"python3\n")
 
-    def test_types(self):
-        """The types of the tests that have some are right."""
+    def test_types(self) -> None:
+        """The types of all tests are right."""
         wanted("mypy")
         with tempfile.TemporaryDirectory(prefix="atomfs-") as cache:
             words = "mypy", "--strict", "--python-version", "3.11", "--cache-dir", cache
-            status, told = done([*words, *(f"{name}.py" for name in self.TYPED)], ROOT / "tests")
+            names = sorted(path.name for path in (ROOT / "tests").glob("*.py"))
+            status, told = done([*words, *names], ROOT / "tests")
         self.same(f"mypy --strict\n{told}", status, 0)
 
-    def test_types_of_python(self):
-        """The types of those tests of the package for Python that have some are right."""
+    def test_types_of_python(self) -> None:
+        """The types of all tests of the package for Python are right."""
         wanted("mypy")
         package = BINDINGS / "python"
         with tempfile.TemporaryDirectory(prefix="atomfs-") as cache:
-            words = "mypy", "--strict", "--python-version", "3.9", "--cache-dir", cache
-            names = (f"test_{name}.py" for name in self.TYPED_OF_PYTHON)
+            # Some tests import packages that are optional, or have no types.
+            words = "mypy", "--strict", "--no-warn-unused-ignores", "--python-version", "3.9", "--cache-dir", cache
+            names = sorted(path.name for path in (package / "tests").glob("*.py"))
             status, told = done([*words, *names], package / "tests", MYPYPATH=str(package / "src"))
         self.same(f"mypy --strict\n{told}", status, 0)
 
-    def test_clang_format(self):
+    def test_clang_format(self) -> None:
         command = self.formatter("clang-format")
         files = [str(path) for path in self.sources() if path.suffix in (".c", ".h")]
         self.same("clang-format", done([command, "--dry-run", "--Werror", *files], ROOT), (0, ""))
 
-    def test_rustfmt(self):
+    def test_rustfmt(self) -> None:
         wanted("rustfmt")
         sources = []
         for folder, edition in (("bindings/rust", "2021"), ("examples", "2021"), ("bench", "2024")):
@@ -628,7 +617,7 @@ class Layout(Case):
         ]
         self.same("lines of more than 120 columns", long, [])
 
-    def test_reasons(self):
+    def test_reasons(self) -> None:
         """Each unsafe block and impl of the crate and its tests has a comment that says why it may be, at its statement: clippy's lint, without clippy."""
         self.same(
             "the lint of lib.rs",
@@ -660,17 +649,17 @@ class Without(Case):
         runpy.run_path("setup.py", run_name="__main__")
     """
 
-    def setUp(self):
+    def setUp(self) -> None:
         harness.takes_a_process()
         self.folder = pathlib.Path(self.enterContext(tempfile.TemporaryDirectory(prefix="atomfs-")))
 
-    def test_no_wheel(self):
+    def test_no_wheel(self) -> None:
         """Without the package `wheel` the build says so in one line."""
         status, told = done([python(), "-c", self.NO_WHEEL], BINDINGS / "python")
         self.same("setup.py", (status, len(told.splitlines())), (1, 1))
         self.assertIn("has no package wheel: pip install wheel, or apt-get install python3-wheel", told)
 
-    def test_pages_of_the_crate(self):
+    def test_pages_of_the_crate(self) -> None:
         """Rust's own pages of the crate are made without the library, and without a warning."""
         wanted("cargo")
         words = ["cargo", "doc", "--offline", "--no-deps", "--quiet"]
@@ -684,10 +673,10 @@ class Numbers(Case):
     """What the packages write out again is what the header and the crates have."""
 
     @staticmethod
-    def source(*names):
+    def source(*names: str) -> str:
         return BINDINGS.joinpath(*names).read_text()
 
-    def test_written(self):
+    def test_written(self) -> None:
         """What repeats the header is what embed/header.py makes of it: prototypes, the module for Python, and the version, which so has one file."""
         self.each(
             ((str(path.relative_to(ROOT)), path, text) for path, text in harness.reader().written()),
@@ -696,7 +685,7 @@ class Numbers(Case):
         self.same("embed/header.py --check", done([sys.executable, EMBED / "header.py", "--check"], ROOT), (0, ""))
         self.same("embed/header.py --chek", done([sys.executable, EMBED / "header.py", "--chek"], ROOT)[0], 2)
 
-    def test_new_version(self):
+    def test_new_version(self) -> None:
         """A version that is new in the header comes into every file that has one, and a new number and function into what is made of it."""
         with tempfile.TemporaryDirectory() as folder:
             top = pathlib.Path(folder)
@@ -711,13 +700,13 @@ class Numbers(Case):
                 .replace("ATOMFS_BAD_CHOICE = 35,", "ATOMFS_BAD_CHOICE = 35, ATOMFS_NEW = 36,")
                 .replace("uint8_t atomfs_close(", f"{new}uint8_t atomfs_close(")
             )
-            words = [sys.executable, top / "embed" / "header.py"]
+            words: list[str | pathlib.Path] = [sys.executable, top / "embed" / "header.py"]
             status, told = done([*words, "--check"], top)
             self.assertEqual((status, told.count("is not what embed/header.py makes")), (1, 7), told)
             self.same("embed/header.py", done(words, top)[0], 0)
             self.same("and then --check", done([*words, "--check"], top), (0, ""))
             for path, _, pattern in self.versions():
-                self.same(path, re.search(pattern, (top / path).read_text(), re.M)[1], "7.8.9")
+                self.same(path, match_in(pattern, (top / path).read_text(), re.M)[1], "7.8.9")
             self.assertIn(
                 "uint8_t PROVED(new)(atomfs *, const void *, size_t, uint64_t *);",
                 (top / "embed" / "proved.h").read_text(),
@@ -727,7 +716,7 @@ class Numbers(Case):
             self.assertIn("    NEW = 36\n", module)
 
     @staticmethod
-    def versions():
+    def versions() -> tuple[tuple[str, str, str], ...]:
         """The files that have the version, each with a pattern."""
         return (
             ("crates/fs_arguments/src/cli.rt", "the program", r'VERSION: &str = "(.*)"'),
@@ -735,15 +724,15 @@ class Numbers(Case):
             ("bindings/rust/Cargo.toml", "the package for Rust", r'^version = "(.*)"'),
         )
 
-    def test_versions(self):
+    def test_versions(self) -> None:
         """One version stands in the header, the program, the packages and the list of changes."""
         rows = (*self.versions(), ("CHANGELOG.md", "the list of changes", r"^## (\S+)"))
         self.each(((name, ROOT / path, pattern) for path, name, pattern in rows), self.look_at_version)
 
-    def look_at_version(self, path, pattern):
-        self.same(path.relative_to(ROOT), re.search(pattern, path.read_text(), re.M)[1], VERSION)
+    def look_at_version(self, path: pathlib.Path, pattern: str) -> None:
+        self.same(path.relative_to(ROOT), match_in(pattern, path.read_text(), re.M)[1], VERSION)
 
-    def test_statuses(self):
+    def test_statuses(self) -> None:
         """Statuses, what a step did, calls, what came of histories, and sets of limits, as the header numbers them."""
         of_rust = {
             name: int(value)
@@ -752,13 +741,13 @@ class Numbers(Case):
         self.same("ffi.rs", of_rust, {name: NUMBERS.get(name) for name in of_rust})
         self.assertGreater(len(of_rust), 25)
 
-    def test_kinds(self):
+    def test_kinds(self) -> None:
         """The crate has the program's word for each fault of a text, in the order of the statuses."""
         statuses = [
             name for name, value in NUMBERS.items() if not name.startswith(("DID", "CALL")) and 16 <= value < 28
         ]
         words = ["".join(part.title() for part in name.split("_")) for name in statuses]
-        kinds = re.search(r"let kinds = \[(.*?)\];", self.source("rust", "src", "error.rs"), re.S)[1]
+        kinds = match_in(r"let kinds = \[(.*?)\];", self.source("rust", "src", "error.rs"), re.S)[1]
         self.same("the kinds of error.rs", re.findall(r'"(\w+)"', kinds), words)
         declared = re.findall(r'#\[error\("([A-Z]\w+)', (CRATES / "fs_words" / "src" / "fault.rt").read_text())
         self.same(
@@ -766,7 +755,7 @@ class Numbers(Case):
         )
 
     @staticmethod
-    def types(text):
+    def types(text: str) -> list[str]:
         """The types of the parameters of a prototype in C, without the names that they may have."""
         words = (re.findall(r"\w+|\*", one) for one in text.split(","))
         types = [[word for word in one if word != "*"] + ["*"] * one.count("*") for one in words if one != ["void"]]
@@ -777,7 +766,7 @@ class Numbers(Case):
         return [" ".join(one) for one in kept]
 
     @staticmethod
-    def width(type):
+    def width(type: str) -> typing.Any:
         """How an argument of a type is handed over: as an address, or as a number of so many bits."""
         addresses = "c_void_p", "c_char_p", "atomfs_gate", "Option<Gate>"
         return "address" if "*" in type or type in addresses else Numbers.BITS[type]
@@ -788,7 +777,7 @@ class Numbers(Case):
         **dict.fromkeys(("uint64_t", "size_t", "u64", "usize", "c_ulong"), 64),
     }
 
-    def test_functions(self):
+    def test_functions(self) -> None:
         """Rust declares no function that the header has not, each with arguments of the same kinds in the same order."""
         header = {
             name: [self.width(field.type.strip()) for field in function.takes]
@@ -801,7 +790,7 @@ class Numbers(Case):
         self.same("ffi.rs", of_rust, {name: header.get(name) for name in of_rust})
 
     # The types in C of a parameter of a proved function; `char` may be `void` there.
-    IN_C = {
+    IN_C: dict[str, list[str]] = {
         # It has no bytes, so nothing is handed over.
         "Global": [],
         "&mut Handle": ["atomfs *"],
@@ -817,7 +806,7 @@ class Numbers(Case):
         "u8": ["uint8_t"],
     }
 
-    def exports(self):
+    def exports(self) -> dict[str, list[str]]:
         """The types of the parameters of each proved function, as C has them."""
         found = {}
         for path in (CRATES / "atomfs_c" / "src").glob("*.rt"):
@@ -826,7 +815,7 @@ class Numbers(Case):
                 found[name] = [of_c for type in types for of_c in self.IN_C[type]]
         return found
 
-    def test_prototypes(self):
+    def test_prototypes(self) -> None:
         """embed/proved.h declares each proved function with the parameters that it has, in their order."""
         text = re.sub(r"\n +", " ", harness.reader().PROVED.read_text())
         declared = {
@@ -836,7 +825,7 @@ class Numbers(Case):
         self.assertGreater(len(declared), 40)
         self.same("embed/proved.h", declared, self.exports())
 
-    def test_handed_on(self):
+    def test_handed_on(self) -> None:
         """Each function of embed/checks.c that takes what the proved one takes hands its parameters on in their order."""
         wanted("cc")
         words = ("cc", "-E", "-P", "-I", EMBED, EMBED / "checks.c")
@@ -855,7 +844,7 @@ class Numbers(Case):
         self.each(((name, f"atomfs_{name}", came, due) for name, (due, came) in looked_at.items()), self.same)
 
     @staticmethod
-    def arguments(text):
+    def arguments(text: str) -> list[str]:
         """The arguments of a call, up to its closing bracket, each by the name that it hands on."""
         depth, ends = 0, [0]
         for at, letter in enumerate(text):
@@ -867,7 +856,7 @@ class Numbers(Case):
         given = (text[start : end - 1].strip() for start, end in zip(ends, ends[1:]))
         return [re.sub(r"^(?:from|into)\((\w+)\)$|^\(?\((\w+)\) != .*$", r"\1\2", one, flags=re.S) for one in given]
 
-    def test_limits(self):
+    def test_limits(self) -> None:
         """Each set of limits has the same numbers in the packages as in the crates."""
         named = {
             "path_names": "path_limit",
@@ -898,12 +887,12 @@ class Numbers(Case):
             (library.NODE_LIMIT, library.PATH_LIMIT),
             (wanted["nodes"][2], wanted["path_names"][2]),
         )
-        calls = re.search(r"^_CALLS, \w+ = \{(.*)\}", self.source("python", "src", "atomfs", "_script.py"), re.M)[1]
-        wanted = dict(zip(("V1", "V2", "V3"), harness.limits_of_texts()["call_limit"], strict=True))
+        calls = match_in(r"^_CALLS, \w+ = \{(.*)\}", self.source("python", "src", "atomfs", "_script.py"), re.M)[1]
+        of_texts = dict(zip(("V1", "V2", "V3"), harness.limits_of_texts()["call_limit"], strict=True))
         self.same(
-            "_script.py", {name: int(value) for name, value in re.findall(r"Limits\.(V\d): ([\d_]+)", calls)}, wanted
+            "_script.py", {name: int(value) for name, value in re.findall(r"Limits\.(V\d): ([\d_]+)", calls)}, of_texts
         )
-        names = [library.LISTED, int(re.search(r"LISTED: usize = ([\d_]+)", source)[1])]
+        names = [library.LISTED, int(match_in(r"LISTED: usize = ([\d_]+)", source)[1])]
         self.same("how many names a call answers", names, [constants("fs_names/src/limits.rt")["LIST_LIMIT"]] * 2)
 
 

@@ -1,4 +1,5 @@
-"""The page that plays a run, `run.html` of the package for Python: a file of ASCII that asks for no other one, whose script has at most 400 lines.
+"""The page that plays a run, `run.html` of the package for Python: a file of ASCII that asks for no other one. It has two scripts, one that reads
+the run and one that shows it, each of at most 400 lines.
 
 The program has this page too, in crates/fs_page/src/template.rt: `python3 tests/pages.py --write` writes that file from `run.html`. What `draw --html`
 writes is this page with the trace, or the journal behind its verdict, and the picture.
@@ -17,6 +18,7 @@ import shutil
 import subprocess
 import sys
 import tempfile
+import typing
 import unittest
 
 import drawn
@@ -27,7 +29,7 @@ from harness import ROOT, Case, run, takes_a_process
 from worked import EXAMPLES, JOURNALS, RUNS, examples
 
 PAGE = (ROOT / "bindings" / "python" / "src" / "atomfs" / "run.html").read_text("ascii")
-SCRIPT = re.search("<script>(.*)</script>", PAGE, re.S)[1]
+SCRIPTS = re.findall("<script>(.*?)</script>", PAGE, re.S)
 # Where the program has the page, in the parts before the picture, between this and the text, and after the text.
 TEMPLATE = ROOT / "crates" / "fs_page" / "src" / "template.rt"
 PARTS = (("BEFORE", "before the picture"), ("BETWEEN", "between the picture and the text"), ("AFTER", "after the text"))
@@ -55,7 +57,7 @@ HOSTILE = b"atomfs 3\nthread t\n" + b"".join(
 HOSTILE += b"schedule\nfinish\n"
 
 
-def template():
+def template() -> str:
     """The file with the parts of the page for the program."""
     head = (
         "//! The page without a run, in three parts: `bindings/python/src/atomfs/run.html`, byte for byte. After a change there\n"
@@ -68,31 +70,37 @@ def template():
     )
 
 
-def page_of(text, picture="", policy=True):
+def page_of(text: bytes, picture: str = "", policy: bool = True) -> str:
     """The page of a text; without its policy, scripts of a test run in it."""
     page = PAGE if policy else re.sub('<meta http-equiv="Content-Security-Policy"[^>]*>\n', "", PAGE)
-    text = re.sub(rb"[^\n -~]", lambda found: b"%%%02X" % found[0][0], text).decode("ascii")
-    return page.replace("@PICTURE@\n", picture).replace("@RUN@", html.escape(text, quote=False))
+    escaped = re.sub(rb"[^\n -~]", lambda found: b"%%%02X" % found[0][0], text).decode("ascii")
+    return page.replace("@PICTURE@\n", picture).replace("@RUN@", html.escape(escaped, quote=False))
 
 
-def shown(page, *flags, link=""):
+def shown(page: str, *flags: str, link: str = "") -> str:
     """What Chromium has of a page when it was loaded."""
     with tempfile.TemporaryDirectory(prefix="atomfs-") as folder:
         path = pathlib.Path(folder) / "page.html"
         path.write_text(page, "ascii")
-        words = (pictures.CHROMIUM, "--headless", "--no-sandbox", "--disable-gpu", f"--user-data-dir={folder}/profile")
+        words: tuple[str, ...] = (
+            str(pictures.CHROMIUM),
+            "--headless",
+            "--no-sandbox",
+            "--disable-gpu",
+            f"--user-data-dir={folder}/profile",
+        )
         words += (*flags, "--dump-dom", path.as_uri() + link)
         return subprocess.run(words, capture_output=True, text=True, timeout=5 * harness.MOST_SECONDS).stdout
 
 
-def asked(page, script, *flags, link=""):
+def asked(page: str, script: str, *flags: str, link: str = "") -> typing.Any:
     """What a script of a test answers in a page."""
     look = f"<script>document.body.textContent = JSON.stringify((() => {{{script}}})())</script>"
     found = re.search("<body>(.*)</body>", shown(page + look, *flags, link=link), re.S)
     return found and json.loads(html.unescape(found[1]))
 
 
-def wants_chromium():
+def wants_chromium() -> None:
     """Leaves a test out where there is no browser."""
     harness.takes_a_process()
     if not pictures.CHROMIUM:
@@ -102,13 +110,13 @@ def wants_chromium():
 class Text(Case):
     """The page as it is in the package."""
 
-    def test_one_template(self):
+    def test_one_template(self) -> None:
         """The program has the page of the package, byte for byte."""
         self.same(
             f"`python3 tests/pages.py --write` writes {TEMPLATE.name} from run.html", TEMPLATE.read_text(), template()
         )
 
-    def test_it_asks_for_nothing(self):
+    def test_it_asks_for_nothing(self) -> None:
         """Every address in it is the name of the space of SVG; it refers to nothing outside it, and its policy allows nothing else."""
         self.same("addresses", re.findall(r"\w+://[^\"']*", PAGE), ["http://www.w3.org/2000/svg"])
         self.same(
@@ -120,17 +128,20 @@ class Text(Case):
             [],
         )
 
-    def test_policy(self):
-        """Only the script of the page runs: the policy has its digest."""
-        digest = base64.b64encode(hashlib.sha256(SCRIPT.encode()).digest()).decode()
-        allowed = f"default-src 'none'; img-src data:; style-src 'unsafe-inline'; script-src 'sha256-{digest}'"
+    def test_policy(self) -> None:
+        """Only the scripts of the page run: the policy has their digests."""
+        digests = [base64.b64encode(hashlib.sha256(script.encode()).digest()).decode() for script in SCRIPTS]
+        scripts = " ".join(f"'sha256-{digest}'" for digest in digests)
+        allowed = f"default-src 'none'; img-src data:; style-src 'unsafe-inline'; script-src {scripts}"
         self.same("policy", POLICY.format(allowed) in PAGE, True)
 
-    def test_lines(self):
+    def test_lines(self) -> None:
         """Comments and blank lines are not counted."""
-        lines = [line for line in SCRIPT.splitlines() if line.strip() and not line.strip().startswith("//")]
-        self.assertLessEqual(len(lines), LINES)
-        self.same("long lines", [line for line in SCRIPT.splitlines() if len(line) > 150], [])
+        self.same("scripts", len(SCRIPTS), 2)
+        for script in SCRIPTS:
+            lines = [line for line in script.splitlines() if line.strip() and not line.strip().startswith("//")]
+            self.assertLessEqual(len(lines), LINES)
+            self.same("long lines", [line for line in script.splitlines() if len(line) > 150], [])
 
 
 class Program(Case):
@@ -138,7 +149,7 @@ class Program(Case):
 
     SEED = ("--seed", "7")
 
-    def look(self, given, *words):
+    def look(self, given: bytes, *words: str) -> None:
         """The page has the trace of the run, or the journal behind its verdict; and the picture, whose status is its own."""
         is_journal = given.startswith(b"atomfs-journal")
         picture = run(given, "draw", *words)
@@ -150,7 +161,7 @@ class Program(Case):
             wanted,
         )
 
-    def test_scripts(self):
+    def test_scripts(self) -> None:
         """By the schedule of the script, by a drawn one and round robin; some have checkpoints, or calls that are left."""
         scripts = [given for _, given in (*examples(RUNS, "script"), *examples(EXAMPLES, "script"))]
         for given in (*scripts, traces.PIECES, traces.NOTHING, traces.AT_THE_ENDS, traces.CUT):
@@ -159,12 +170,12 @@ class Program(Case):
             self.look(given, *self.SEED)
             self.look(given, "--robin")
 
-    def test_journals(self):
+    def test_journals(self) -> None:
         """Lawful or not; a schedule is not used."""
         for _, given in (*examples(JOURNALS, "journal"), *examples(EXAMPLES, "journal")):
             self.look(given)
 
-    def test_what_others_hand_on(self):
+    def test_what_others_hand_on(self) -> None:
         """A journal of a run; a script that was found, shrunk or written with the events of its run; and the journal up to a return that nothing explains."""
         takes_a_process()
         self.look(run((RUNS / "helped_mkdir.script").read_bytes(), "run").output, *self.SEED)
@@ -176,7 +187,7 @@ class Program(Case):
         wrong = b"atomfs-journal 1\nbegin 1 0 mkdir /a\nreturn 1 failed EEXIST\n"
         self.look(run(wrong, "linearize", "--front").output)
 
-    def test_hostile(self):
+    def test_hostile(self) -> None:
         """No byte of a name or of a comment comes to the page as a sign of HTML, or as one that is not printable."""
         takes_a_process()
         journal = run(HOSTILE, "run").output
@@ -185,12 +196,12 @@ class Program(Case):
             self.look(given)
             page = run(given, "draw", "--html").output
             self.same("printable", re.findall(rb"[^\n -~]", page), [])
-            # The script of the page has a comment's begin nowhere, and the page each of these elements once.
+            # The page has two scripts and one text, and a comment begins nowhere.
             self.same(
-                "elements", [page.count(sign) for sign in (b"</pre>", b"<script>", b"</script>", b"<!--")], [1, 1, 1, 0]
+                "elements", [page.count(sign) for sign in (b"</pre>", b"<script>", b"</script>", b"<!--")], [1, 2, 2, 0]
             )
 
-    def test_refused(self):
+    def test_refused(self) -> None:
         """As of a picture: what is no script and no journal, and a checkpoint to which a run comes too early."""
         for given in (
             b"",
@@ -206,7 +217,7 @@ class Program(Case):
         self.same("its status", run(early, "draw", "--html").status, 1)
 
 
-def drawn_runs():
+def drawn_runs() -> typing.Iterator[bytes]:
     """Traces of drawn scripts by drawn schedules."""
     for number in range(DRAWN):
         draw = random.Random(number)
@@ -217,7 +228,7 @@ def drawn_runs():
         yield run(drawn.script(lists).encode(), "trace", "--seed", str(number)).output
 
 
-def worked_runs():
+def worked_runs() -> typing.Iterator[bytes]:
     """Traces and journals of the worked scripts, of which some have checkpoints, bytes that are escaped, or files of many bytes."""
     for path, given in (*examples(RUNS, "script"), *examples(EXAMPLES, "script")):
         yield run(given, "trace").output
@@ -233,15 +244,16 @@ class Trees(Case):
     ASK = """return TEXTS.map(text => { const run = readRun(text), lines = nodesOf(stateAt(run, run.events.length).root).map(lineOf);
         return [lines, run.calls.length, run.calls.filter(call => call.helper).length, run.events.length, isRight(run)]; });"""
 
-    def look(self, texts):
-        texts = [text.decode("ascii") for text in texts]
+    def look(self, given_texts: typing.Sequence[bytes]) -> None:
+        texts = [text.decode("ascii") for text in given_texts]
         # A text stands in a string of JavaScript, in which no sign ends the script.
         given = json.dumps(texts).replace("<", r"\u003c")
         answers = asked(page_of(b"atomfs-trace 2\n", policy=False), f"const TEXTS = {given}; {self.ASK}")
         self.same("how many", answers and len(answers), len(texts))
         for text, (lines, calls, helped, events, is_right) in zip(texts, answers):
             body, _, end = text.partition("\ntree\n")
-            is_trace, count = text.startswith("atomfs-trace"), lambda form: len(re.findall(form, body, re.M))
+            is_trace = text.startswith("atomfs-trace")
+            count: typing.Callable[[str], int] = lambda form: len(re.findall(form, body, re.M))
             tree = re.findall("^(?:dir|file) .*", end, re.M)
             # The tree of a run text lacks the change of a call that takes effect and is left.
             if is_trace or count("^commit ") == count("^return "):
@@ -253,15 +265,15 @@ class Trees(Case):
             )
             self.same(text, (calls, helped, events, is_right), (*wanted, True))
 
-    def test_drawn(self):
+    def test_drawn(self) -> None:
         wants_chromium()
         self.look(list(drawn_runs()))
 
-    def test_worked(self):
+    def test_worked(self) -> None:
         wants_chromium()
         self.look(list(worked_runs()))
 
-    def test_another_tree(self):
+    def test_another_tree(self) -> None:
         """A page says that its tree is not the one of the text."""
         wants_chromium()
         wrong = run((RUNS / "helped_mkdir.script").read_bytes(), "trace").output.replace(
@@ -273,7 +285,7 @@ class Trees(Case):
 class Hostile(Case):
     """Names are text and nothing else, with the policy of the page and without it."""
 
-    def test_names(self):
+    def test_names(self) -> None:
         wants_chromium()
         trace, journal = (run(HOSTILE, command).output for command in ("trace", "run"))
         comment = journal.replace(b"\n", b"\n# seat 0 </pre><script>document.title='run'</script>\n", 1)
@@ -284,7 +296,7 @@ class Hostile(Case):
                 self.same(text, "mkdir /&lt;/pre&gt;&lt;script&gt;document.title='run'&lt;" in page, True)
                 self.same(text, re.findall("<img|<script>document", page), [])
 
-    def test_each_node_has_its_name(self):
+    def test_each_node_has_its_name(self) -> None:
         wants_chromium()
         text = run(HOSTILE, "trace").output
         ask = "show(end); return nodesOf(view.state.root).map((one, place) => nodeRow(one, false).textContent.trim())"
@@ -293,16 +305,91 @@ class Hostile(Case):
         self.assertGreater(len(told), len(HOSTILE_NAMES))
 
 
+def noted(text: bytes, *notes: str) -> str:
+    """The page of a text with notes before it, as Python's package writes them."""
+    return page_of("".join(f"# {note}\n" for note in notes).encode() + text, policy=False)
+
+
+class Sources(Case):
+    """A page that Python makes of a failed run of functions says which line of source made each call."""
+
+    # As the package escapes it: a text that would run something, an accented letter, a tab, a sign that turns what is beside it, and a byte that is no UTF-8.
+    SOURCE = "app.py:4 os.mkdir('/a') # </pre><script>document.title='run'</script>%C3%A4%09%E2%80%AE%FF"
+    SHOWN = "app.py:4 os.mkdir('/a') # </pre><script>document.title='run'</script>\xe4\\u{9}\\u{202e}\ufffd"
+
+    def test_line(self) -> None:
+        """It is beside the sentence of each event of that call, and in the list of calls; and it can be searched for."""
+        wants_chromium()
+        trace = run((RUNS / "helped_mkdir.script").read_bytes(), "trace").output
+        ask = "const source = byId('source'), seen = at => { show(at); return source.hidden ? null : source.textContent; };"
+        ask += "const told = [seen(0), seen(1), seen(end)], row = document.querySelector('#calls li');"
+        ask += "find('app.py:9', 1); return [told, row.textContent, byId('count').textContent, document.title];"
+        page = noted(trace, f"source 1 {self.SOURCE}", "source 2 app.py:9 os.mkdir('/a/d')", "source 99 app.py:9 none")
+        told, row, found, title = asked(page, ask)
+        self.same("beside the sentence", told, ["", self.SHOWN, ""])
+        self.same("in the list", row, f"1. m#1 mkdir /a  \u2192 ok  {self.SHOWN}")
+        self.same("found, title", [found, title], ["event 6 (6 of 27)", "AtomFS: a run, event by event"])
+        self.same("without lines", asked(noted(trace), ask)[0], [None] * 3)
+
+
+class Histories(Case):
+    """A page that Python makes of a history has the calls in the order that was found, or says what is wrong."""
+
+    NONE = b"atomfs-journal 1\nbegin 1 0 mkdir /a\ncommit 1\nreturn 1 ok\nbegin 2 0 rmdir /a\nbegin 3 1 mkdir /a/b\ncommit 3\nreturn 3 ok\n"
+    NONE += b"return 2 ok\nbegin 4 1 stat /a\nreturn 4 failed ?\n"
+    NOTES = "fault 8 ReturnUncommitted", "history none 6 2", "reply the call could have replied: failed ENOTEMPTY"
+    SEEN = "byId('news').textContent, byId('sentence').textContent"
+
+    def test_none(self) -> None:
+        """The headline has the return at fault, its sentence what the call could have replied, and calls without a commit are seen too."""
+        wants_chromium()
+        calls = "[...document.querySelectorAll('#calls li')].map(row => row.textContent)"
+        kinds = "[...document.querySelectorAll('#lanes g')].map(one => [one.getAttribute('aria-label'), ...one.querySelector('rect').classList, one.classList.contains('wrong')])"
+        ask = f"show(8); const told = [{self.SEEN}]; show(end); return [told, {calls}, {kinds}, byId('legend').textContent !== ''];"
+        told, rows, bars, has_legend = asked(noted(self.NONE, *self.NOTES), ask)
+        reply = "No order explains this reply. The call could have replied: failed ENOTEMPTY."
+        news = "4 calls on 2 threads; no order explains that rmdir /a returned ok"
+        self.same("the fault", told, [news, f"seat 0#2 (rmdir /a) returns ok. {reply}"])
+        wanted = ["1. seat 0#1 mkdir /a", "2. seat 1#1 mkdir /a/b", "   seat 0#2 rmdir /a", "   seat 1#2 stat /a"]
+        self.same("calls", [row.partition("  \u2192")[0] for row in rows], wanted)
+        bars = {name.split(" ", 2)[2]: kinds for name, *kinds in bars}
+        due = {"(mkdir /a)": ["walk", False], "(rmdir /a)": ["open", True], "(mkdir /a/b)": ["walk", False]}
+        self.same("bars", (bars, has_legend), ({**due, "(stat /a)": ["open", False]}, True))
+
+    def test_lawful(self) -> None:
+        wants_chromium()
+        text = b"atomfs-journal 1\nbegin 1 0 mkdir /a\ncommit 1\nreturn 1 ok\n"
+        told = asked(noted(text, "lawful", "history lawful"), f"show(end); return [{self.SEEN}];")
+        wanted = ["1 call on 1 thread; an order explains every reply", "seat 0#1 (mkdir /a) returns ok."]
+        self.same("the news", told, wanted)
+
+    def test_met(self) -> None:
+        """A call on which the pointer rests, or that has the focus, is shown with the calls that it met; the focus stays with the call."""
+        wants_chromium()
+        ask = "const bars = () => [...document.querySelectorAll('#lanes g')], met = () => bars().filter(one => one.classList.contains('met')).map(one => one.call.words);"
+        ask += "const told = [], tell = () => told.push([met(), byId('met').textContent]);"
+        ask += "const at = name => bars().find(one => one.call.words === name), press = key => document.activeElement.dispatchEvent(new KeyboardEvent('keydown', {key, bubbles: true}));"
+        ask += "at('rmdir /a').dispatchEvent(new PointerEvent('pointerover', {bubbles: true})); tell();"
+        ask += "document.body.dispatchEvent(new PointerEvent('pointerover', {bubbles: true})); tell();"
+        ask += "at('stat /a').focus(); tell(); at('mkdir /a/b').focus(); tell(); press('Enter'); tell(); press('ArrowRight');"
+        ask += "return [told, document.activeElement.call.words, byId('count').textContent];"
+        told, focused, count = asked(noted(self.NONE, *self.NOTES), ask)
+        both = [["rmdir /a"], "seat 1#1 (mkdir /a/b) met seat 0#2 (rmdir /a)."]
+        wanted = [[["mkdir /a/b"], "seat 0#2 (rmdir /a) met seat 1#1 (mkdir /a/b)."], [[], ""]]
+        self.same("met", told, [*wanted, [[], "seat 1#2 (stat /a) met no other call."], both, both])
+        self.same("focus", [focused, count], ["mkdir /a/b", "event 7 (7 of 10)"])
+
+
 class Played(Case):
     """Keys, links and marks."""
 
     TRACE = (RUNS / "helped_mkdir.script").read_bytes()
     SEEN = "[byId('count').textContent, byId('sentence').textContent]"
 
-    def page(self):
+    def page(self) -> str:
         return page_of(run(self.TRACE, "trace").output, run(self.TRACE, "draw").output.decode(), policy=False)
 
-    def test_keys(self):
+    def test_keys(self) -> None:
         wants_chromium()
         press = "const press = key => { dispatchEvent(new KeyboardEvent('keydown', {key})); return %s; };" % self.SEEN
         keys = ["End", "ArrowLeft", "Home", "ArrowRight", "PageDown", "PageDown", "PageUp"]
@@ -322,7 +409,7 @@ class Played(Case):
         ]
         self.same("keys", answers, wanted)
 
-    def test_link(self):
+    def test_link(self) -> None:
         """A link leads to an event; what is said is in a live region, and the tree has what is locked."""
         wants_chromium()
         rows = "[...document.querySelectorAll('#tree li')].map(row => row.textContent)"
@@ -347,7 +434,7 @@ class Played(Case):
             ],
         )
 
-    def test_find_and_zoom(self):
+    def test_find_and_zoom(self) -> None:
         wants_chromium()
         told = asked(
             self.page(),
@@ -364,7 +451,7 @@ class Played(Case):
             ],
         )
 
-    def test_fault(self):
+    def test_fault(self) -> None:
         """The first entry at fault of a journal is named, if a line before the journal has it; a comment in it does not count."""
         wants_chromium()
         journal = (EXAMPLES / "wrong_reply.journal").read_bytes().replace(b"\n", b"\n# fault 3 CommitTwice\n", 1)
@@ -379,13 +466,13 @@ class Played(Case):
             ],
         )
 
-    def test_schemes(self):
+    def test_schemes(self) -> None:
         wants_chromium()
         ask = "return getComputedStyle(document.body).backgroundColor"
         colours = [asked(self.page(), ask, f"--blink-settings=preferredColorScheme={number}") for number in (0, 1)]
         self.same("dark, light", colours, ["rgb(13, 17, 23)", "rgb(255, 255, 255)"])
 
-    def test_without_scripts(self):
+    def test_without_scripts(self) -> None:
         """The picture of the run is seen, and nothing of the player is: here in a frame that may run no script."""
         wants_chromium()
         ask = (
@@ -393,19 +480,32 @@ class Played(Case):
             "document.body.textContent = JSON.stringify([page.querySelectorAll('noscript .call').length, height('noscript svg') > 200, height('#player'), height('#run')])"
         )
         frame = f'<iframe sandbox="allow-same-origin" srcdoc="{html.escape(self.page())}" onload="{html.escape(ask)}"></iframe>'
-        found = re.search("<body>(.*)</body>", shown(f"<!DOCTYPE html><body>{frame}"), re.S)
+        found = harness.match_in("<body>(.*)</body>", shown(f"<!DOCTYPE html><body>{frame}"), re.S)
         self.same("calls, and what is seen", json.loads(html.unescape(found[1])), [4, True, 0, 0])
 
-    def test_large(self):
+    def test_large(self) -> None:
         """Of a run of many events only what is seen is in the page."""
         wants_chromium()
-        name, given, *words = pictures.LARGE[1]
+        name, given, *words = next(row for row in pictures.LARGE if row[0] == "five_hundred_calls")
         events, rows = asked(
             page_of(run(given, "trace", *words).output, policy=False),
             "show(3000); return [end, document.querySelectorAll('li').length]",
         )
         self.assertGreater(events, 3_000)
         self.assertLess(rows, 200)
+
+    def test_many_seats(self) -> None:
+        """Nor of a journal with many seats, whose states that are kept grow with the events alone."""
+        wants_chromium()
+        seats = range(5_000)
+        text = "atomfs-journal 1\n" + "".join(f"begin {seat + 1} {seat} stat /\n" for seat in seats)
+        text += "".join(f"commit {seat + 1}\nreturn {seat + 1} stat dir 0\n" for seat in seats)
+        ask = "show(end); const kept = run.states.reduce((sum, state) => sum + state.pending.size, 0);"
+        ask += (
+            "return [run.lanes.length, run.lanes[4999], document.querySelectorAll('li').length < 200, kept < 2 * end]"
+        )
+        told = asked(page_of(text.encode(), policy=False), ask)
+        self.same("lanes, rows, states", told, [5_000, "seat 4999", True, True])
 
 
 if __name__ == "__main__":

@@ -11,10 +11,12 @@ import resource
 import shutil
 import subprocess
 import tempfile
+import typing
 import unittest
 import xml.etree.ElementTree as ElementTree
 
 import drawn
+import geometry
 import harness
 import traces
 from harness import DATA, ROOT, Case, run
@@ -53,8 +55,32 @@ MANY_PIECES = (
     + b" ".join([b"t*5 !checkpoint"] * 12)
     + b"\n"
 )
+# The journal that `linearize --front` writes for a history that no order explains: it ends with the return at fault.
+FRONT = (
+    b"atomfs-journal 1\nbegin 1 0 mkdir /a\ncommit 1\nreturn 1 ok\nbegin 2 0 rmdir /a\nbegin 3 1 mkdir /a/b\ncommit 3\n"
+    b"return 3 ok\nreturn 2 ok\n"
+)
+# Directories whose names are alike at their beginnings, and differ at their ends or in their middle.
+ALIKE = (
+    b"atomfs 1\nthread t\n"
+    + b"".join(
+        b"mkdir %s\n" % b"".join(b"/directory_%d_of_many" % level for level in range(depth)) for depth in range(1, 7)
+    )
+    + b"schedule\nfinish\n"
+)
+# Bytes that are text, and such that are none.
+BYTES = (
+    b"atomfs 3\nthread w\nmknod /config\nwrite /config 0 706f72743d38300a\nwrite /config 8 00ff\nread /config 0 99\n"
+    b"thread r\nread /config 0 99\nschedule\nw*6 r*8 finish\n"
+)
+# A tree of more entries than are shown, of which two commits move and add some.
+LARGE_TREE = (
+    b"atomfs-journal 4\nstart\ndir /\n"
+    + b"".join(b"dir /d%02d\nfile /d%02d/a_file_with_a_long_name 686868\n" % (place, place) for place in range(20))
+    + b"entries\nbegin 1 0 rename /d07 /moved\nbegin 2 1 mkdir /d11/new\ncommit 1\ncommit 2\nreturn 1 ok\nreturn 2 ok\n"
+)
 # Each stored picture: its name, its input and what is asked.
-STORED = (
+STORED: tuple[tuple[typing.Any, ...], ...] = (
     ("helped_mkdir", (RUNS / "helped_mkdir.script").read_bytes()),
     ("helped_mkdir_journal", (RUNS / "helped_mkdir.text").read_bytes()),
     ("moved_ancestor", (EXAMPLES / "moved_ancestor.script").read_bytes(), "--seed", "7"),
@@ -72,6 +98,10 @@ STORED = (
     ("many_pieces", MANY_PIECES),
     ("checkpoints_at_the_ends", traces.AT_THE_ENDS),
     ("nothing_but_a_checkpoint", traces.NOTHING),
+    ("front", FRONT),
+    ("alike", ALIKE),
+    ("bytes", BYTES),
+    ("large_tree", LARGE_TREE),
 )
 # What a page tells of a picture that it shows: texts that leave it, labels, or words and numbers of the axis, that meet, and labels on lines of
 # checkpoints.
@@ -97,7 +127,12 @@ document.body.innerHTML = '<pre>' + JSON.stringify([boxes.length, wrong]).replac
 """
 
 
-def crowd(threads, calls, number):
+def parsed(text: str | bytes) -> typing.Any:
+    """The element of a picture."""
+    return ElementTree.fromstring(text)
+
+
+def crowd(threads: int, calls: int, number: int) -> bytes:
     """A script of threads with so many drawn calls each."""
     draw = random.Random(number)
     return drawn.script(
@@ -105,7 +140,7 @@ def crowd(threads, calls, number):
     ).encode()
 
 
-def crowd_in_pieces(pieces, threads, calls, number):
+def crowd_in_pieces(pieces: int, threads: int, calls: int, number: int) -> bytes:
     """The same of threads that have all their calls in one piece: drawn events, and then rounds that are enough for these calls."""
     draw = random.Random(number)
     names = [[f"t{piece * threads + thread}" for thread in range(threads)] for piece in range(pieces)]
@@ -115,8 +150,9 @@ def crowd_in_pieces(pieces, threads, calls, number):
 
 
 # Runs that are too large to be stored: eight threads, 500 calls, many seats, and pieces of many calls.
-LARGE = (
+LARGE: tuple[tuple[typing.Any, ...], ...] = (
     ("eight_threads", crowd(8, 6, 1), "--seed", "3"),
+    ("fourteen_threads", crowd(14, 5, 21), "--seed", "3"),
     ("five_hundred_calls", crowd(4, 125, 2), "--seed", "3"),
     ("twenty_threads", crowd(20, 3, 3), "--seed", "3"),
     ("eight_pieces", crowd_in_pieces(8, 3, 5, 4)),
@@ -124,7 +160,7 @@ LARGE = (
 )
 
 
-def inputs():
+def inputs() -> typing.Iterator[tuple[typing.Any, ...]]:
     """The worked scripts and journals, those of the examples, and the stored and the large ones."""
     for folder, ending in ((RUNS, "script"), (EXAMPLES, "script"), (JOURNALS, "journal"), (EXAMPLES, "journal")):
         for path, given in examples(folder, ending):
@@ -133,20 +169,20 @@ def inputs():
     yield from LARGE
 
 
-def counts(root):
+def counts(root: typing.Any) -> tuple[int, ...]:
     """How many calls, commits by the call itself, commits by another one, and checkpoints a picture has."""
     classes = [element.get("class") for element in root.iter() if element.tag in (SVG + "g", SVG + "circle")]
     return tuple(classes.count(name) for name in ("call", "c", "k", "checkpoint"))
 
 
-def crossed(root):
+def crossed(root: typing.Any) -> typing.Iterator[str]:
     """The bars that cross the line of a checkpoint in their row."""
     lines = [
-        re.match(r"M (\d+) (\d+)V (\d+)", group.find(SVG + "path").get("d"))
+        harness.match_in(r"\AM (\d+) (\d+)V (\d+)", group.find(SVG + "path").get("d"))
         for group in root.iter(SVG + "g")
         if group.get("class") == "checkpoint"
     ]
-    lines = [tuple(map(int, line.groups())) for line in lines]
+    spans = [tuple(map(int, line.groups())) for line in lines]
     bars = [
         path.get("d")
         for group in root.iter(SVG + "g")
@@ -156,21 +192,21 @@ def crossed(root):
     for bar in bars:
         if found := re.match(r"M (\d+) (\d+)H (\d+)v16", bar):
             one, y, other = map(int, found.groups())
-            if any(min(one, other) < x < max(one, other) and top < y < bottom for x, top, bottom in lines):
+            if any(min(one, other) < x < max(one, other) and top < y < bottom for x, top, bottom in spans):
                 yield bar
 
 
 class Counted(Case):
     """A picture is well-formed, and has what its journal has, or the trace of its run, which tells of each piece."""
 
-    def look(self, given, *words):
+    def look(self, given: bytes, *words: str) -> None:
         came = run(given, "draw", *words)
         is_journal = given.startswith(b"atomfs-journal")
         told = given if is_journal else run(given, "trace", *(words if words[:1] != ("--around",) else ())).output
         if not harness.compares:
             return
         shown = given.decode(errors="backslashreplace")
-        root = ElementTree.fromstring(came.output)
+        root = parsed(came.output)
         self.same(
             shown,
             (
@@ -188,7 +224,7 @@ class Counted(Case):
         if is_journal:
             wanted = *(sum(line.startswith(f"{word} ") for line in lines) for word in ("begin", "commit")), 0
         else:
-            moments = traces.Trace(told).moments
+            moments: list[typing.Any] = traces.Trace(told).moments
             wanted = *(
                 sum(moment != traces.CHECKPOINT and moment.did in did for moment in moments)
                 for did in (("begun",), ("committed", "helped"))
@@ -196,22 +232,22 @@ class Counted(Case):
         calls, own, given_by_another, checkpoints = counts(root)
         self.same(shown, (calls, own + given_by_another, checkpoints), wanted)
 
-    def test_each(self):
+    def test_each(self) -> None:
         self.each(inputs(), self.look)
 
 
 class Stored(Case):
     """Pictures that were looked at."""
 
-    def look(self, name, given, *words):
+    def look(self, name: str, given: bytes, *words: str) -> None:
         came = run(given, "draw", *words)
         stored = PICTURES / f"{name}.svg"
         self.same(given.decode(errors="backslashreplace"), came.output, stored.read_bytes() if stored.exists() else b"")
 
-    def test_each(self):
+    def test_each(self) -> None:
         self.each([(row[0], *row) for row in STORED], self.look)
 
-    def test_of_the_pages(self):
+    def test_of_the_pages(self) -> None:
         """The pictures of docs/pictures are those of the texts beside them, and each is on a page."""
         folder = ROOT / "docs" / "pictures"
         texts = sorted(path for path in folder.iterdir() if path.suffix in (".script", ".journal"))
@@ -221,13 +257,13 @@ class Stored(Case):
         self.same("the pictures that pages show", sorted(set(shown)), [path.stem for path in texts])
         self.each(((path.name, path) for path in texts), self.look_at_text)
 
-    def look_at_text(self, path):
+    def look_at_text(self, path: pathlib.Path) -> None:
         """It says itself by which words it is drawn. `docs/pictures/draw` draws all anew."""
         given = path.read_bytes()
         (words,) = re.findall(rb"^# Drawn by: (.*)$", given, re.M)
         self.same(path.name, run(given, *words.decode().split(" ")).output, path.with_suffix(".svg").read_bytes())
 
-    def test_lines_of_helping(self):
+    def test_lines_of_helping(self) -> None:
         """The lines of a trace that docs/HELPING.md explains are those of the run that it draws."""
         given = (ROOT / "docs" / "pictures" / "rename_helps.script").read_bytes()
         trace = run(given, "trace").output.decode()
@@ -235,12 +271,12 @@ class Stored(Case):
         self.same("how many there are", len(shown), 3)
         self.same("the lines that it has not", [line for line in shown if line not in trace.splitlines()], [])
 
-    def test_of_the_documents(self):
+    def test_of_the_documents(self) -> None:
         """The picture that the README shows."""
         came = run((RUNS / "helped_mkdir.script").read_bytes(), "draw")
         self.same("docs/helped_mkdir.svg", came.output, (ROOT / "docs" / "helped_mkdir.svg").read_bytes())
 
-    def test_each_is_asked_for(self):
+    def test_each_is_asked_for(self) -> None:
         self.same(
             "tests/data/pictures", sorted(path.stem for path in PICTURES.iterdir()), sorted(row[0] for row in STORED)
         )
@@ -249,7 +285,7 @@ class Stored(Case):
 class Asked(Case):
     """What is asked of a picture, and how it ends."""
 
-    def test_statuses(self):
+    def test_statuses(self) -> None:
         wrong = (EXAMPLES / "wrong_reply.journal").read_bytes()
         for given, words, status in (
             (traces.CUT, (), 1),
@@ -265,12 +301,12 @@ class Asked(Case):
                 status if harness.compares else 0,
             )
 
-    def test_no_such_call(self):
+    def test_no_such_call(self) -> None:
         self.same(
             "--around 99", run(ODD, "draw", "--around", "99"), harness.Outcome(2, b"", b"atomfs: there is no call 99\n")
         )
 
-    def test_a_wrong_reply_is_told_with_the_one_due(self):
+    def test_a_wrong_reply_is_told_with_the_one_due(self) -> None:
         came = run((EXAMPLES / "wrong_reply.journal").read_bytes(), "draw").output.decode()
         if harness.compares:
             self.same("wrong_reply.journal", re.findall(r", due (\w+)", came), ["ok"])
@@ -279,7 +315,7 @@ class Asked(Case):
 class SeatNames(Case):
     """A comment of a journal names a seat's lane, where the name is one that a thread may have; of two comments the last counts."""
 
-    def look(self, comments, names):
+    def look(self, comments: typing.Sequence[str], names: typing.Sequence[str]) -> None:
         given = "\n".join(
             [
                 "atomfs-journal 1",
@@ -294,19 +330,19 @@ class SeatNames(Case):
         came = run(given.encode(), "draw")
         self.same("status", came.status, 0)
         if harness.compares:
-            root = ElementTree.fromstring(came.output)
+            root = parsed(came.output)
             self.same("lanes", [text.text for text in root.iter(SVG + "text") if text.get("class") == "t"][-2:], names)
             self.same(
                 "lanes and places of calls in tips, and their numbers",
                 [
                     (title.text.split(" stat ")[0], title.text.split("\n")[1].split(",")[0])
                     for title in root.iter(SVG + "title")
-                    if " stat /" in title.text
+                    if " stat /" in title.text and not title.get("id")
                 ],
                 [(f"{name}#1", f"call {number}") for number, name in enumerate(names, 1)],
             )
 
-    def test_comments(self):
+    def test_comments(self) -> None:
         rows = [
             ("none", [], ["seat 0", "seat 12"]),
             ("one of two", ["# seat 12 writer"], ["seat 0", "writer"]),
@@ -332,11 +368,11 @@ class Faults(Case):
     """The call at the first fault of a journal is marked: by the kind, or by the reply that was due. A call that does not begin as its entry says, or not
     before it, is drawn at that entry; and `--around` takes it. Its label has its place among the calls of its seat."""
 
-    def look(self, journal, number, place, told):
+    def look(self, journal: bytes, number: int, place: int, told: str) -> None:
         for more in ((), ("--around", str(number))):
             came = run(journal, "draw", *more)
             if harness.compares:
-                texts = ElementTree.fromstring(came.output).iter(SVG + "text")
+                texts = parsed(came.output).iter(SVG + "text")
                 marked = [
                     (text.text.split(" ")[0], text.find(SVG + "tspan").text)
                     for text in texts
@@ -344,22 +380,26 @@ class Faults(Case):
                 ]
                 self.same(f"{journal.decode()}{more}", (came.status, marked), (1, [(f"#{place}", told)]))
 
-    def test_each_kind(self):
+    def test_each_kind(self) -> None:
         journals = {path.name: journal for path, journal in examples(JOURNALS, "journal")}
         rows = [
             ("begin_twice", 1, 1, ", BeginTwice"),
             ("seat_busy", 2, 2, ", SeatBusy"),
             ("commit_twice", 7, 1, ", CommitTwice"),
-            ("return_before_its_commit", 1, 1, ", ReturnUncommitted"),
+            ("return_before_its_commit", 1, 1, ", before its commit"),
             ("return_twice", 7, 1, ", ReturnTwice"),
             ("wrong_names", 2, 2, ", due names a"),
         ]
         begun_behind = b"atomfs-journal 1\nbegin 1 0 stat /\ncommit 7\nbegin 7 1 stat /\n"
         busy = b"atomfs-journal 1\nbegin 7 0 stat /\nbegin 8 0 mkdir /a\ncommit 7\n"
-        others = ("begun behind", begun_behind, 7, 1, ", CommitUnbegun"), ("on a busy seat", busy, 8, 2, ", SeatBusy")
+        others = (
+            ("begun behind", begun_behind, 7, 1, ", CommitUnbegun"),
+            ("on a busy seat", busy, 8, 2, ", SeatBusy"),
+            ("a return that no order explains", FRONT, 2, 2, ", no order explains it"),
+        )
         self.each([*((name, journals[name], *more) for name, *more in rows), *others], self.look)
 
-    def test_no_such_call(self):
+    def test_no_such_call(self) -> None:
         """Where no entry begins it, there is no call to mark."""
         for entry in (b"commit 7", b"return 7 ok"):
             given = b"atomfs-journal 1\nbegin 1 0 stat /\n%s\n" % entry
@@ -377,13 +417,13 @@ class Faults(Case):
 class Checkpoints(Case):
     """A run in pieces is drawn whole, with a line at each checkpoint; a journal that starts at another tree is judged from there."""
 
-    def drawn(self, given, *words):
+    def drawn(self, given: typing.Any, *words: str) -> typing.Any:
         """The picture of a run that went well."""
         came = run(given, "draw", *words)
         self.same(given.decode(), (came.status, came.message), (0, b""))
-        return ElementTree.fromstring(came.output if harness.compares else b"<svg/>")
+        return parsed(came.output if harness.compares else b"<svg/>")
 
-    def labels(self, root):
+    def labels(self, root: typing.Any) -> list[str]:
         """The labels of the calls, up to their replies."""
         return [
             text.text
@@ -392,7 +432,7 @@ class Checkpoints(Case):
             for text in group.iter(SVG + "text")
         ]
 
-    def test_the_given_schedule(self):
+    def test_the_given_schedule(self) -> None:
         """All pieces are drawn; call numbers begin again, and so do those of commits."""
         root = self.drawn(IN_PIECES)
         if harness.compares:
@@ -428,14 +468,14 @@ class Checkpoints(Case):
                 sorted(orders),
                 [f"commit number {number}" for number in (1, 1, 1, 2, 2, 3, 3, 4)],
             )
-            told = "8 calls on 3 threads, 2 commits given by another call, 2 checkpoints"
+            news = "rename /a /b helped mkdir /a/d/x, and 1 more was helped"
             self.same(
-                "what it tells",
-                [root.find(SVG + "title").text, root.find(SVG + "desc").text.split(".")[0]],
-                [f"AtomFS: {told}", told],
+                "its headline, and the line below",
+                [root.find(SVG + "title").text, *root.find(SVG + "desc").text.split(". ")[:2]],
+                [f"AtomFS: {news}", news, "8 calls on 3 threads, 2 helped by another, 2 checkpoints"],
             )
 
-    def test_what_a_line_tells(self):
+    def test_what_a_line_tells(self) -> None:
         root = self.drawn(traces.PIECES)
         if harness.compares:
             told = ["".join(group.itertext()) for group in root.iter(SVG + "g") if group.get("class") == "checkpoint"]
@@ -445,16 +485,16 @@ class Checkpoints(Case):
                 ["the journal begins again here, and the next call is call 1checkpoint"] * 2,
             )
 
-    def test_calls_under_way(self):
+    def test_calls_under_way(self) -> None:
         for given, call in traces.MET:
             for more in ((), ("--around", "1")):
                 self.same(
                     given.decode(),
                     run(given, "draw", *more),
-                    harness.Outcome(1, b"", b"atomfs: call %d under way\n" % call),
+                    harness.Outcome(1, b"", b"atomfs: call %d is pending\n" % call),
                 )
 
-    def test_around_a_call_of_each_piece(self):
+    def test_around_a_call_of_each_piece(self) -> None:
         """A number is that of a call of each piece which has so many; the checkpoints between what is drawn are drawn."""
         rows = ((IN_PIECES, "1", 5, 2), (IN_PIECES, "3", 6, 1), (IN_PIECES, "4", 3, 0), (MANY_PIECES, "1", 12, 11))
         for given, number, calls, checkpoints in rows:
@@ -469,7 +509,7 @@ class Checkpoints(Case):
             harness.Outcome(2, b"", b"atomfs: there is no call 5\n"),
         )
 
-    def test_pieces_without_the_number(self):
+    def test_pieces_without_the_number(self) -> None:
         """Each checkpoint between two calls that are drawn has its line, also where the piece between has no such call."""
         given = b"atomfs 1\nthread t\nmkdir /a\nmkdir /b\nmkdir /c\nmkdir /d\nmkdir /e\nschedule\nt*10 !checkpoint t*5 !checkpoint t*10\n"
         root = self.drawn(given, "--around", "2")
@@ -480,18 +520,18 @@ class Checkpoints(Case):
                 ((2, 2, 0, 2), ["#2 mkdir /b \u2192 ok", "#5 mkdir /e \u2192 ok"]),
             )
 
-    def test_rows(self):
+    def test_rows(self) -> None:
         """A checkpoint before a call that stands in the next row stands there too: in each row but for the last a call is behind the last line."""
         root = self.drawn(MANY_PIECES)
         if not harness.compares:
             return
         lines = [
-            re.match(r"M (\d+) (\d+)V (\d+)", group.find(SVG + "path").get("d"))
+            harness.match_in(r"\AM (\d+) (\d+)V (\d+)", group.find(SVG + "path").get("d"))
             for group in root.iter(SVG + "g")
             if group.get("class") == "checkpoint"
         ]
         bars = [
-            re.match(r"M (\d+) (\d+)", group.find(SVG + "path").get("d"))
+            harness.match_in(r"\AM (\d+) (\d+)", group.find(SVG + "path").get("d"))
             for group in root.iter(SVG + "g")
             if group.get("class") == "call"
         ]
@@ -508,19 +548,19 @@ class Checkpoints(Case):
             [],
         )
 
-    def test_other_schedules(self):
+    def test_other_schedules(self) -> None:
         for schedule in (("--robin",), ("--seed", "7")):
             plain = traces.PIECES.replace(b"!checkpoint ", b"")
             came = run(traces.PIECES, "draw", *schedule)
             self.same(traces.PIECES.decode(), (came.status, came), (0, run(plain, "draw", *schedule)))
 
-    def test_its_last_piece(self):
+    def test_its_last_piece(self) -> None:
         """The journal of the last piece can be drawn."""
         harness.takes_a_process()
         came = run(run(traces.PIECES, "run").output, "draw")
         self.same(traces.PIECES.decode(), (came.status, came.output.count(b'class="call"')), (0, 1))
 
-    def test_started(self):
+    def test_started(self) -> None:
         for given, status, due in ((STARTED, 0, []), (WRONGLY, 1, ["bytes"])):
             came = run(given, "draw")
             if harness.compares:
@@ -535,13 +575,13 @@ class ManySeats(Case):
     """The picture of a journal takes time in proportion to its seats: of each seat one call that did not return, one that did, and half of the calls on one
     seat while the others are under way."""
 
-    def drawn(self, given):
+    def drawn(self, given: typing.Any) -> typing.Any:
         before = resource.getrusage(resource.RUSAGE_CHILDREN).ru_utime
         came = run("\n".join(("atomfs-journal 1", *given, "")).encode(), "draw")
         self.same(f"{len(given)} entries", (came.status, came.message), (0, b""))
         self.assertLess(resource.getrusage(resource.RUSAGE_CHILDREN).ru_utime - before, 4)
 
-    def test_time(self):
+    def test_time(self) -> None:
         harness.takes_a_process()
         begins = [f"begin {call} {call} stat /" for call in range(1, SEATS + 1)]
         ends = [f"commit {call}\nreturn {call} stat dir 0" for call in range(1, SEATS + 1)]
@@ -554,16 +594,184 @@ class ManySeats(Case):
         self.each(shapes, self.drawn)
 
 
+class Measured(Case):
+    """No text leaves its picture, meets another one, or has a line through it: by the widths of the font that the picture names."""
+
+    def look(self, given: bytes, *words: str) -> None:
+        came = run(given, "draw", *words)
+        if not harness.compares:
+            return
+        shown = given.decode(errors="backslashreplace")[:2_000]
+        look = geometry.Look(parsed(came.output))
+        self.same(f"{shown}: clipped", look.clipped(), [])
+        self.same(f"{shown}: struck through", list(look.struck()), [])
+        self.same(f"{shown}: meeting", list(look.meeting()), [])
+
+    def test_each(self) -> None:
+        self.each(inputs(), self.look)
+
+    def test_of_the_pages(self) -> None:
+        """The pictures that pages show."""
+        for path in [ROOT / "docs" / "helped_mkdir.svg", *sorted((ROOT / "docs" / "pictures").glob("*.svg"))]:
+            look = geometry.Look(parsed(path.read_bytes()))
+            self.same(path.name, [look.clipped(), list(look.struck()), list(look.meeting())], [[], [], []])
+
+    def test_what_is_found(self) -> None:
+        """A line that is drawn behind a text, or before it and not hidden, is found; so is a text that leaves the picture."""
+        text = '<text x="10" y="20">ab</text>'
+        line, apart = (f'<path class="g" d="M {x} 0V 40"/>' for x in (15, 30))
+        cover = '<path class="B" d="M 8 8H 30v16H 8z"/>'
+        rows = (
+            (text, 0, 0),
+            (line + text, 0, 1),
+            (text + line, 0, 1),
+            (line + cover + text, 0, 0),
+            (cover + line + text, 0, 1),
+            (apart + text, 0, 0),
+            ('<text x="90" y="20">ab</text>', 1, 0),
+        )
+        for body, clipped, struck in rows:
+            picture = f'<svg xmlns="{SVG[1:-1]}" width="100" height="40" font-size="12"><style/>{body}</svg>'
+            look = geometry.Look(parsed(picture))
+            self.same(body, (len(look.clipped()), len(list(look.struck()))), (clipped, struck))
+
+
+class News(Case):
+    """The headline says what happened."""
+
+    def look(self, wanted: str, given: bytes, *words: str) -> None:
+        came = run(given, "draw", *words)
+        if harness.compares:
+            found = next(parsed(came.output).iter(SVG + "text")).text
+            self.same(given.decode(errors="backslashreplace"), found, wanted)
+
+    def test_each(self) -> None:
+        rows = (
+            ("rename /a /b helped mkdir /a/d/x", (RUNS / "helped_mkdir.script").read_bytes()),
+            ("call 2 rmdir /a returned ok, no order explains it", FRONT),
+            ("call 3 mkdir /a/d/x failed ENOENT, but ok was due", (EXAMPLES / "wrong_reply.journal").read_bytes()),
+            ("call 1 mkdir /a: CommitTwice", UNLAWFUL),
+            ("m#1 mkdir /a and 1 other call have not returned", traces.CUT),
+            ("5 calls on 2 threads, all returned", BYTES),
+            ("call 1 stat / has not returned", b"atomfs-journal 1\nbegin 1 0 stat /\n"),
+        )
+        self.each([(row[0], *row) for row in rows], self.look)
+
+
+class Trees(Case):
+    """The tree before the first commit, and after each of at most twelve; an entry that is new is marked."""
+
+    def trees(self, given: bytes, *words: str) -> list[list[str]]:
+        """The lines of each tree: its words, and a `*` after a new one."""
+        came = run(given, "draw", *words)
+        columns: list[list[str]] = []
+        for group in parsed(came.output if harness.compares else b"<svg/>").iter(SVG + "g"):
+            if group.get("class") != "tree":
+                continue
+            for text in group.iter(SVG + "text"):
+                if text.text in ("before", "after", "at the end"):
+                    columns.append([])
+                elif text.get("class") not in ("o", "m"):
+                    columns[-1].append(text.text + ("*" if "Y" in text.get("class") else ""))
+        return columns
+
+    def test_helped(self) -> None:
+        wanted = [["/"], ["/", "a*"], ["/", "a", "d*"], ["/", "a", "d", "x*"], ["/", "b*", "d*", "x*"]]
+        for ending in ("script", "text"):
+            given = (RUNS / f"helped_mkdir.{ending}").read_bytes()
+            self.same(given.decode(), self.trees(given), wanted if harness.compares else [])
+
+    def test_bytes(self) -> None:
+        wanted = [
+            ["/"],
+            ["/", "config*", '""*'],
+            ["unchanged"],
+            ["/", "config*", '"port=80\\n"*'],
+            ["/", "config*", "706f72743d38300\u2026*"],
+            ["unchanged"],
+        ]
+        self.same(BYTES.decode(), self.trees(BYTES), wanted if harness.compares else [])
+
+    def test_more_than_twelve(self) -> None:
+        """Of more commits, or of pieces, the first tree and the last."""
+        head, calls, end = (
+            b"atomfs 1\nthread t\n",
+            [b"mkdir /%d\n" % place for place in range(13)],
+            b"schedule\nfinish\n",
+        )
+        rows = (head + b"".join(calls) + end, 2), (head + b"".join(calls[:12]) + end, 13), (IN_PIECES, 2)
+        for given, trees in rows:
+            self.same(given.decode(), len(self.trees(given)), trees if harness.compares else 0)
+
+    def test_of_a_large_tree(self) -> None:
+        """What changed is shown, with what is above it."""
+        found = self.trees(LARGE_TREE)
+        if harness.compares:
+            self.same("how many lines", [len(lines) <= 25 for lines in found], [True] * 3)
+            self.same("what is new at first", [word for word in found[0] if word.endswith("*")], [])
+            self.same("what is moved", "moved*" in found[1], True)
+            self.same("what is added", found[2][-3:], ["d11", "new*", "\u2026"])
+
+
+class Folded(Case):
+    """If more than eight threads are drawn, each wait is one: the picture of fourteen threads is lower, and has fewer texts."""
+
+    def look(self, name: str) -> tuple[typing.Any, list[str]]:
+        """The picture of a large input, and the words of its waits."""
+        given, words = next((row[1], row[2:]) for row in LARGE if row[0] == name)
+        came = run(given, "draw", *words)
+        root = parsed(came.output if harness.compares else b"<svg/>")
+        waits: list[str] = [text.text for text in root.iter(SVG + "text") if text.get("class") == "v"]
+        return root, waits
+
+    def test_fourteen_threads(self) -> None:
+        root, waits = self.look("fourteen_threads")
+        if harness.compares:
+            self.same("words of waits that say who holds a node", [word for word in waits if "#" in word], [])
+            self.assertLess(int(root.get("height")), 3_800)
+            self.assertLess(sum(1 for _ in root.iter(SVG + "text")), 600)
+
+    def test_eight_threads(self) -> None:
+        _, waits = self.look("eight_threads")
+        if harness.compares:
+            self.same("whether who holds a node is said", any("#" in word for word in waits), True)
+
+
+class Words(Case):
+    """Bytes are shown as text where they are one, and names that are alike are cut apart."""
+
+    def test_bytes(self) -> None:
+        came = run(BYTES, "draw")
+        if harness.compares:
+            found = ["".join(text.itertext()) for text in parsed(came.output).iter(SVG + "text")]
+            for wanted in (
+                '#2 write /config 0 "port=80\\n" \u2192 wrote 8',
+                "#3 write /config 8 00ff \u2192 wrote 2",
+                '#1 read /config 0 99 \u2192 bytes ""',
+            ):
+                self.same(wanted, wanted in found, True)
+
+    def test_names_that_are_alike(self) -> None:
+        """The cut names of different nodes differ."""
+        came = run(ALIKE, "draw")
+        if harness.compares:
+            texts = parsed(came.output).iter(SVG + "text")
+            names = {text.text for text in texts if text.get("class") == "n" and "\u2026" in text.text}
+            digits = [set(re.findall(r"\d", name)) for name in names]
+            self.same(f"whether each has the digit by which it differs: {sorted(names)}", all(digits), True)
+            self.same("the digits of names", set().union(*digits), set("01234"))
+
+
 class Rendered(Case):
     """Chromium shows a picture with no text cut off, and no label on another."""
 
-    def look(self, given, *words):
+    def look(self, given: bytes, *words: str) -> None:
         picture = run(given, "draw", *words).output.decode()
         with tempfile.TemporaryDirectory(prefix="atomfs-") as folder:
             page = pathlib.Path(folder) / "page.html"
             page.write_text(f"<!DOCTYPE html><meta charset=utf-8><body style='margin:0'>{picture}{LOOK}")
             chromium = (
-                CHROMIUM,
+                str(CHROMIUM),
                 "--headless",
                 "--no-sandbox",
                 "--disable-gpu",
@@ -576,7 +784,7 @@ class Rendered(Case):
         told = json.loads(found[1].replace("&lt;", "<").replace("&gt;", ">").replace("&amp;", "&")) if found else None
         self.same(given.decode(errors="backslashreplace")[:2_000], told and told[1], [])
 
-    def test_each(self):
+    def test_each(self) -> None:
         harness.takes_a_process()
         if not CHROMIUM:
             self.skipTest("pictures are rendered where Chromium is installed")

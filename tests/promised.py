@@ -5,6 +5,7 @@ import pathlib
 import re
 import subprocess
 import tempfile
+import typing
 import unittest
 
 from harness import ROOT, Case
@@ -12,10 +13,12 @@ from harness import ROOT, Case
 PROMISES = ROOT / "tests" / "promises"
 
 
-def loaded():
+def loaded() -> typing.Any:
     """The command as a module."""
     loader = importlib.machinery.SourceFileLoader("promises", str(PROMISES))
-    module = importlib.util.module_from_spec(importlib.util.spec_from_loader("promises", loader))
+    spec = importlib.util.spec_from_loader("promises", loader)
+    assert spec
+    module = importlib.util.module_from_spec(spec)
     loader.exec_module(module)
     return module
 
@@ -124,7 +127,7 @@ OF_NEW = """\
 """
 
 
-def sources(crate):
+def sources(crate: str) -> typing.Iterator[tuple[str, str]]:
     """The lines of a crate's sources, with where they stand."""
     for path in sorted((ROOT / "crates" / crate / "src").rglob("*.rt")):
         for number, line in enumerate(path.read_text().splitlines(), 1):
@@ -132,7 +135,7 @@ def sources(crate):
 
 
 class Promised(Case):
-    def test_a_small_crate(self):
+    def test_a_small_crate(self) -> None:
         with tempfile.TemporaryDirectory() as folder:
             crate = pathlib.Path(folder) / "small"
             (crate / "src").mkdir(parents=True)
@@ -142,11 +145,11 @@ class Promised(Case):
             of_new, *_ = "\n".join(promises.printed(crate, True)).split("Room::new")[1].split("\n\n")
             self.same("the clauses of a function", of_new.split("size.\n")[1] + "\n", OF_NEW)
 
-    def test_each_public_function(self):
+    def test_each_public_function(self) -> None:
         """Those of the product: each is printed with where it stands and with what is said of it."""
         self.each(((crate, crate) for crate in promises.product()), self.look_at_crate)
 
-    def look_at_crate(self, crate):
+    def look_at_crate(self, crate: str) -> None:
         printed = [
             line.split("  ")[1].split(",")[0]
             for line in promises.printed(ROOT / "crates" / crate, False)
@@ -160,11 +163,11 @@ class Promised(Case):
             [],
         )
 
-    def test_each_clause(self):
+    def test_each_clause(self) -> None:
         """Each clause of a source is one of a function, but for those of closures, which stand deeper."""
         self.each(((crate, crate) for crate in promises.product()), self.look_at_clauses)
 
-    def look_at_clauses(self, crate):
+    def look_at_clauses(self, crate: str) -> None:
         found = sum(
             len(function.requires) + len(function.ensures) for function in promises.functions(ROOT / "crates" / crate)
         )
@@ -172,7 +175,7 @@ class Promised(Case):
             crate, found, sum(1 for _, line in sources(crate) if re.match(r" {4}(?: {4})?(requires|ensures)\b", line))
         )
 
-    def test_command(self):
+    def test_command(self) -> None:
         """Without a crate it prints all of the product, and of a name that is none it says so."""
         told = subprocess.run([PROMISES], capture_output=True, text=True, check=True).stdout
         self.same("the crates", re.findall(r"^((?:fs_|atomfs)\w*): ", told, re.M), promises.product())
@@ -193,19 +196,19 @@ class Types(Case):
     RUNTIME = re.compile(r"\brt: &")
 
     @staticmethod
-    def head(crate, function):
+    def head(crate: str, function: typing.Any) -> str:
         """A function up to its clauses, or to its body."""
         lines = (ROOT / "crates" / crate / function.file).read_text().splitlines()[function.line - 1 :]
         return re.split(r"\b(?:requires|ensures)\b|\{", "\n".join(lines))[0]
 
-    def waiting(self, crate, owner):
+    def waiting(self, crate: str, owner: str) -> list[str]:
         """The calls of a type that take the runtime."""
         listed = [
             function for function in promises.public(ROOT / "crates" / crate) if function.name.startswith(f"{owner}::")
         ]
         return [function.name for function in listed if self.RUNTIME.search(self.head(crate, function))]
 
-    def test_observers_wait_for_nobody(self):
+    def test_observers_wait_for_nobody(self) -> None:
         """To wait for a lock a call takes the runtime: a session's calls do, and none of an observer's does."""
         self.same("an observer", self.waiting("fs_observe", "Observer"), [])
         self.same("a session", self.waiting("fs_share", "Session"), ["Session::call", "Session::call_told"])

@@ -4,6 +4,7 @@ import functools
 import html
 import pathlib
 import re
+import typing
 
 STYLE = """\
 body{font:16px/1.5 system-ui,sans-serif;max-width:60rem;margin:0 auto;padding:1rem;color:#1f2328;background:#fff}
@@ -23,7 +24,7 @@ IMPORT = re.compile(r"use Rattle\.([\w.]+)\.\{(.*?)\}", re.S)
 WORD = re.compile(r"[^\s(){}\[\];,.:=+|&×→∷]+")
 
 
-def imports(text):
+def imports(text: str) -> dict[str, str]:
     """The module of each name that a text imports."""
     return {name.strip(): module for module, names in IMPORT.findall(text) for name in names.split(",")}
 
@@ -31,26 +32,26 @@ def imports(text):
 class Definitions:
     """The files of `specs/` with what they define."""
 
-    def __init__(self, crates):
+    def __init__(self, crates: pathlib.Path) -> None:
         self.crates = crates
 
-    def path(self, module):
+    def path(self, module: str) -> pathlib.Path:
         crate, _, rest = module.partition(".")
         return self.crates / crate / f"{rest.replace('.', '/')}.antt"
 
     @functools.lru_cache(maxsize=None)
-    def file(self, module):
+    def file(self, module: str) -> tuple[dict[str, int], dict[str, str]]:
         """The line of each definition of a file by its name, and what the file imports."""
         path = self.path(module)
         text = path.read_text() if path.is_file() else ""
-        found = {}
+        found: dict[str, int] = {}
         for number, line in enumerate(text.splitlines(), 1):
             named = CONSTRUCTOR.match(line) or (not line.startswith(NO_DEFINITION) and HEAD.match(line))
             if named:
                 found.setdefault(named[1], number)
         return found, imports(text)
 
-    def place(self, module, name):
+    def place(self, module: str, name: str) -> typing.Optional[tuple[str, int]]:
         """The module and the line of a definition, also where a file hands it on."""
         for _ in range(8):
             found, others = self.file(module)
@@ -61,23 +62,23 @@ class Definitions:
             module = others[name]
         return None
 
-    def modules(self):
+    def modules(self) -> typing.Iterator[str]:
         """All files of `specs/` of the crates."""
         for path in sorted(self.crates.glob("*/specs/**/*.antt")):
             yield ".".join(path.relative_to(self.crates).with_suffix("").parts)
 
 
-def page(title, body):
+def page(title: str, body: str) -> str:
     head = (
         f'<meta charset="utf-8"><meta name="viewport" content="width=device-width"><title>{html.escape(title)}</title>'
     )
     return f'<!doctype html><html lang="en"><head>{head}<style>{STYLE}</style></head><body>{body}</body></html>\n'
 
 
-def linked(text, names, definitions):
+def linked(text: str, names: typing.Mapping[str, str], definitions: Definitions) -> str:
     """A clause as HTML, in which each name of a definition leads to it."""
 
-    def link(found):
+    def link(found: re.Match[str]) -> str:
         word, shown = found[0], html.escape(found[0])
         place = definitions.place(names[word], word) if word in names else None
         return f'<a href="specs/{place[0]}.html#L{place[1]}">{shown}</a>' if place else shown
@@ -89,7 +90,7 @@ def linked(text, names, definitions):
     return "".join(parts) + html.escape(text[at:])
 
 
-def function_as_html(function, names, definitions):
+def function_as_html(function: typing.Any, names: typing.Mapping[str, str], definitions: Definitions) -> str:
     name = html.escape(function.name)
     lines = [f'<h2 id="{name}"><code>{name}</code> <span class="at">{function.file}:{function.line}</span></h2>']
     lines.append(f"<p>{html.escape(function.sentence)}</p>")
@@ -103,7 +104,9 @@ def function_as_html(function, names, definitions):
     return "\n".join(lines)
 
 
-def crate_as_html(crate, head, functions, definitions):
+def crate_as_html(
+    crate: pathlib.Path, head: str, functions: typing.Sequence[typing.Any], definitions: Definitions
+) -> str:
     """The page of a crate, whose names are those that each of its files imports."""
     known = {str(path.relative_to(crate)): imports(path.read_text()) for path in (crate / "src").rglob("*.rt")}
     body = [f'<p><a href="index.html">All crates</a></p><h1>{crate.name}</h1><p>{html.escape(head)}</p>']
@@ -111,7 +114,7 @@ def crate_as_html(crate, head, functions, definitions):
     return page(f"{crate.name}: promises", "\n".join(body))
 
 
-def definitions_as_html(module, path):
+def definitions_as_html(module: str, path: pathlib.Path) -> str:
     lines = [
         f'<span id="L{number}">{html.escape(line)}</span>'
         for number, line in enumerate(path.read_text().splitlines(), 1)
@@ -122,7 +125,11 @@ def definitions_as_html(module, path):
     )
 
 
-def write(folder, crates, listed):
+def write(
+    folder: str | pathlib.Path,
+    crates: pathlib.Path,
+    listed: typing.Iterable[tuple[pathlib.Path, str, typing.Sequence[typing.Any]]],
+) -> None:
     """The pages of crates, each a pair of its folder and what is said of it, with its functions."""
     folder, definitions = pathlib.Path(folder), Definitions(crates)
     (folder / "specs").mkdir(parents=True, exist_ok=True)

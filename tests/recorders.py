@@ -12,6 +12,7 @@ import shutil
 import subprocess
 import sys
 import tempfile
+import typing
 import unittest
 
 import harness
@@ -26,7 +27,11 @@ OPENING = "atomfs-journal 4\nstart\ndir /\nentries\n"
 ALONE = 20
 
 
-def ended(words, given=b"", **variables):
+# What a command ended with, wrote and told.
+Ended = tuple[int, str, str]
+
+
+def ended(words: typing.Iterable[object], given: bytes = b"", **variables: str) -> Ended:
     """What a command ends with, writes and tells."""
     done = subprocess.run(
         list(map(str, words)),
@@ -38,20 +43,22 @@ def ended(words, given=b"", **variables):
     return done.returncode, done.stdout.decode(), done.stderr.decode()
 
 
-def of_strace(given, directory=DIRECTORY):
+def of_strace(given: bytes, directory: str | pathlib.Path = DIRECTORY) -> Ended:
     return ended((sys.executable, RECORD / "strace2history", directory), given)
 
 
 @functools.cache
-def strace2history():
+def strace2history() -> typing.Any:
     """The recorder as a module, so that it is started once for all rows."""
     loader = importlib.machinery.SourceFileLoader("strace2history", str(RECORD / "strace2history"))
-    module = importlib.util.module_from_spec(importlib.util.spec_from_loader("strace2history", loader))
+    spec = importlib.util.spec_from_loader("strace2history", loader)
+    assert spec
+    module = importlib.util.module_from_spec(spec)
     loader.exec_module(module)
     return module
 
 
-def entries_of(*lines):
+def entries_of(*lines: str) -> str:
     """The entries that come of lines of strace, or why they are refused."""
     module = strace2history()
     try:
@@ -213,27 +220,27 @@ REFUSED = {
 
 
 class Traces(Case):
-    def test_stored(self):
+    def test_stored(self) -> None:
         """A trace of strace 6.1, of two threads and a further process, and the history that it is."""
         given, wanted = (STORED / f"calls.{kind}" for kind in ("strace", "history"))
         self.same(given, of_strace(given.read_bytes()), (0, wanted.read_text(), ""))
         came = run(wanted.read_bytes(), "linearize")
         self.same(wanted, (came.status, came.message), (0, b""))
 
-    def look(self, lines, wanted):
+    def look(self, lines: typing.Iterable[str], wanted: typing.Any) -> None:
         self.same("\n".join(lines), entries_of(*lines), wanted)
 
-    def test_made(self):
+    def test_made(self) -> None:
         self.each(((name, *row) for name, row in MADE_OF.items()), self.look)
 
-    def refused(self, line, words):
+    def refused(self, line: str, words: str) -> None:
         wanted = f"line 2: {words}"
         self.same(line, entries_of(HEAD, line)[: len(wanted)], wanted)
 
-    def test_refused(self):
+    def test_refused(self) -> None:
         self.each(((name, *row) for name, row in REFUSED.items()), self.refused)
 
-    def test_ends(self):
+    def test_ends(self) -> None:
         """What is refused is told with its line, and nothing is written; DIR is looked at first."""
         told = "strace2history: line 2: read is a call on a descriptor\n"
         self.same("a read", of_strace(f"{HEAD}\n{REFUSED['a read'][0]}\n".encode()), (3, "", told))
@@ -249,12 +256,12 @@ class Traces(Case):
 class Recorder(Case):
     """A test in a folder of its own, with stand-ins for the program."""
 
-    def setUp(self):
+    def setUp(self) -> None:
         harness.takes_a_process()
         self.folder = pathlib.Path(tempfile.mkdtemp(prefix="atomfs-recorders-"))
         self.addCleanup(shutil.rmtree, self.folder)
 
-    def standing_in(self, lawful, verdict, status):
+    def standing_in(self, lawful: int, verdict: str, status: int) -> pathlib.Path:
         """A program that finds so many histories lawful, and then says this."""
         path, count = self.folder / "program", self.folder / "count"
         count.write_text("0")
@@ -285,7 +292,7 @@ threads = [threading.Thread(target=work) for _ in "12"]
 
 
 class Traced(Recorder):
-    def test_traced(self):
+    def test_traced(self) -> None:
         """A program that strace follows here is lawful, with all its calls."""
         packages.wanted("strace")
         if ended(("strace", "-o", "/dev/null", "true"))[0]:
@@ -309,7 +316,7 @@ class Traced(Recorder):
 class Kernel(Recorder):
     """record.c, on a directory of this machine."""
 
-    def setUp(self):
+    def setUp(self) -> None:
         super().setUp()
         packages.wanted("cc")
         self.recorder = self.folder / "record"
@@ -318,27 +325,27 @@ class Kernel(Recorder):
         self.tree = self.folder / "tree"
         self.tree.mkdir()
 
-    def recorded(self, *words, program=None):
+    def recorded(self, *words: object, program: str | pathlib.Path | None = None) -> Ended:
         """What it ends with, writes and tells; it leaves nothing behind."""
         came = ended((self.recorder, *words), ATOMFS=str(program or harness.program()))
         self.same("what is left", list(self.tree.iterdir()), [])
         return came
 
-    def test_lawful(self):
+    def test_lawful(self) -> None:
         """Without moves nothing was seen that no order explains; with them on one thread nothing either."""
         wanted = f"all are lawful: {ALONE} histories of one thread, 20 of 3 threads\n"
         self.same("20 rounds", self.recorded(self.tree, 20, 7), (0, wanted, ""))
         status, _, told = self.recorded(self.tree, 1, 7, "moves")
         self.same("one thread with moves", (status == 2, told.startswith("one thread")), (False, False))
 
-    def look(self, lawful, verdict, status, wanted, words):
+    def look(self, lawful: int, verdict: str, status: int, wanted: typing.Any, words: str) -> None:
         came, history, told = self.recorded(self.tree, 20, 7, program=self.standing_in(lawful, verdict, status))
         self.same((lawful, verdict), (came, told), (wanted, words))
         self.same(
             "the history", run(history.encode(), "linearize").status if history else None, 0 if wanted < 3 else None
         )
 
-    def test_ends(self):
+    def test_ends(self) -> None:
         """What it says where the program finds no order: of one thread that is another kind of tree. It stops there."""
         rows = (
             ("one thread", 7, "none 3 2", 1, 2, "one thread, so this is another kind of tree: none 3 2\n"),
@@ -347,48 +354,108 @@ class Kernel(Recorder):
         )
         self.each(rows, self.look)
 
-    def test_refused(self):
+    def test_refused(self) -> None:
         usage = f"usage: {self.recorder} DIR [ROUNDS [SEED [moves]]]\n"
         for words in ((), (self.tree, 0), (self.tree, 1, 1, "move"), (self.tree, 1, 1, "moves", 1)):
-            self.same(words, self.recorded(*words), (3, "", usage))
+            self.same(words, self.recorded(*words), (2, "", usage))
         none = self.folder / "none"
-        self.same("no directory", self.recorded(none), (3, "", f"{none}: No such file or directory\n"))
-        status, _, told = self.recorded(self.tree, program=none)
-        self.same("no program", (status, told.splitlines()[-1]), (3, "atomfs linearize ended with status 127"))
+        self.same("no directory", self.recorded(none), (2, "", f"{none}: No such file or directory\n"))
+        wanted = "record.c: the program atomfs is missing: put it on the path, or name it with ATOMFS\n"
+        self.same("no program", self.recorded(self.tree, program=none), (2, "", wanted))
+
+
+class Launched(Recorder):
+    """examples/record/record, where what it needs is missing: one line, and the status of a usage error."""
+
+    LAUNCHER = RECORD / "record"
+
+    def setUp(self) -> None:
+        super().setUp()
+        # A path with no more than the launcher itself needs.
+        for name in ("sh", "dirname", "mktemp", "rm"):
+            found = shutil.which(name)
+            assert found
+            (self.folder / name).symlink_to(found)
+
+    def stand_in(self, name: str, status: int) -> None:
+        """A program of this name, which ends with a status."""
+        path = self.folder / name
+        path.write_text(f"#!/bin/sh\necho noise >&2\nexit {status}\n")
+        path.chmod(0o755)
+
+    def launched(self, *words: object) -> Ended:
+        return ended((self.LAUNCHER, *words), PATH=str(self.folder), CC="", GOPATH="", CLASSPATH="")
+
+    def look(self, kind: str, program: str | None, what: str, package: str) -> None:
+        if program:
+            self.stand_in(program, 1)
+        wanted = f"examples/record/record: {what} is missing: apt-get install {package}\n"
+        self.same((kind, program), self.launched(kind), (2, "", wanted))
+
+    def test_missing(self) -> None:
+        rows: tuple[tuple[str, str | None, str, str], ...] = (
+            ("go", None, "Go", "golang-go"),
+            ("go", "go", "afero", "golang-github-spf13-afero-dev"),
+            ("java", None, "Java", "default-jdk-headless"),
+            ("java", "javap", "Jimfs", "libjimfs-java"),
+            ("c", None, "a C compiler", "gcc"),
+            ("python", None, "Python", "python3"),
+        )
+        self.each(((f"{row[0]} {row[1] or 'alone'}", *row) for row in rows), self.look)
+
+    def test_ends(self) -> None:
+        """The recorder's status is the launcher's, and nothing is left of what was built."""
+        self.stand_in("python3", 7)
+        self.same("a status", self.launched("python", "MemoryFS"), (7, "", "noise\n"))
+        usage = "usage: examples/record/record go|java|c|python [WORDS]\n"
+        for words in ((), ("rust",)):
+            self.same(words, self.launched(*words), (2, "", usage))
+
+    def test_c(self) -> None:
+        """A recorder that the launcher builds says itself that its directory is missing."""
+        packages.wanted("cc")
+        none = self.folder / "none"
+        self.same("c", ended((self.LAUNCHER, "c", none)), (2, "", f"{none}: No such file or directory\n"))
 
 
 class Drawn(Recorder):
     """A recorder that writes a history of each round, whatever comes of them."""
 
-    def counts(self, recorded):
+    def counts(self, recorded: Ended) -> tuple[int, ...]:
         """How many of the histories are lawful, have no order, have a fault, or are not decided."""
         self.same("the recorder", (recorded[0], recorded[2]), (0, ""))
         told = run(recorded[1].encode(), "linearize", "--many").output.decode().splitlines()[-1]
-        return tuple(map(int, re.fullmatch(r"lawful (\d+) none (\d+) fault (\d+) unknown (\d+)", told).groups()))
+        counts = re.fullmatch(r"lawful (\d+) none (\d+) fault (\d+) unknown (\d+)", told)
+        assert counts
+        return tuple(map(int, counts.groups()))
 
 
 class Go(Drawn):
     """record.go, on the tree in memory of afero."""
 
-    def setUp(self):
+    def setUp(self) -> None:
         super().setUp()
         packages.wanted("go")
         if not (packages.GO / "src" / "github.com" / "spf13" / "afero").is_dir():
             self.skipTest("afero is not there: apt-get install golang-github-spf13-afero-dev")
         self.recorder = self.folder / "record"
-        variables = {"GO111MODULE": "off", "GOPATH": str(packages.GO), "GOCACHE": str(self.folder / "cache")}
+        variables: dict[str, typing.Any] = {
+            "GO111MODULE": "off",
+            "GOPATH": str(packages.GO),
+            "GOCACHE": str(self.folder / "cache"),
+        }
         self.same(
             "go build", ended(("go", "build", "-o", self.recorder, RECORD / "record.go"), **variables), (0, "", "")
         )
 
-    def recorded(self, *words):
+    def recorded(self, *words: object) -> Ended:
         return ended((self.recorder, *words))
 
-    def test_one_goroutine(self):
+    def test_one_goroutine(self) -> None:
         """One goroutine is lawful, so what several do is a race."""
         self.same("one", self.counts(self.recorded("-goroutines", 1, "-rounds", 200)), (200, 0, 0, 0))
 
-    def test_race(self):
+    def test_race(self) -> None:
         """Two creates of one name by O_CREATE and O_EXCL are both ok now and then: no order explains the second."""
         for seed in range(10):
             lawful, none, fault, unknown = self.counts(self.recorded("-rounds", 1_000, "-seed", seed))
@@ -397,7 +464,7 @@ class Go(Drawn):
                 return
         self.skipTest("the goroutines of this machine never met in 10,000 rounds")
 
-    def test_refused(self):
+    def test_refused(self) -> None:
         status, written, told = self.recorded("-threads", 1)
         self.same("a flag", (status, written, told.splitlines()[0]), (2, "", "flag provided but not defined: -threads"))
 
@@ -405,7 +472,7 @@ class Go(Drawn):
 class Java(Drawn):
     """Record.java, on Jimfs."""
 
-    def setUp(self):
+    def setUp(self) -> None:
         super().setUp()
         packages.wanted("java")
         jars = [packages.JARS / name for name in ("jimfs.jar", "guava.jar")]
@@ -413,7 +480,7 @@ class Java(Drawn):
             self.skipTest("Jimfs is not there: apt-get install libjimfs-java")
         self.words = "java", "-cp", ":".join(map(str, jars)), RECORD / "Record.java"
 
-    def test_lawful(self):
+    def test_lawful(self) -> None:
         """Nothing was seen that no order explains, of one thread and of three."""
         for threads in (1, 3):
             self.same(f"{threads} threads", self.counts(ended((*self.words, threads, 200, 7))), (200, 0, 0, 0))
@@ -434,26 +501,28 @@ class InMemory(Recorder):
         runpy.run_path(sys.argv[0], run_name="__main__")
     """
 
-    def recorded(self, *words, standing_in=None, **more):
+    def recorded(self, *words: object, standing_in: str | None = None, **more: typing.Any) -> Ended:
         by = ("-c", standing_in) if standing_in else ()
         words = packages.python(), "-W", "ignore", *by, RECORD / "record.py", *words
-        variables = {
+        variables: dict[str, typing.Any] = {
             "PYTHONPATH": str(packages.BINDINGS / "python" / "src"),
             "ATOMFS_LIBRARY": os.path.abspath(harness.library_at()),
             "PYTHONDONTWRITEBYTECODE": "1",
         }
         return ended(words, **variables | more)
 
-    def test_tree(self):
+    def test_tree(self) -> None:
         """Our own tree is lawful."""
         wanted = "all are lawful: 20 histories of one thread, 20 of 3 threads\n"
         self.same("Tree", self.recorded("Tree", "--rounds", "20"), (0, wanted, ""))
 
-    def test_memory_fs(self):
+    def test_memory_fs(self) -> None:
         """What is lost in PyFilesystem2's tree is found: a directory is removed, in which another thread has made something meanwhile. README says it so."""
         status, history, told = self.recorded("MemoryFS")
         sentence = r"no order explains that `(.*)` returned `.*`\n"
-        place, call, words = re.fullmatch(rf"round \d+: none (\d+) (\d+)\n{sentence}", told).groups()
+        found = re.fullmatch(rf"round \d+: none (\d+) (\d+)\n{sentence}", told)
+        assert found
+        place, call, words = found.groups()
         shown = [block for block in blocks(README) if re.fullmatch(sentence, block)]
         self.same("the sentences of README", len(shown), 1)
         shown = [block for block in blocks(HISTORIES) if re.fullmatch(rf"round \d+: none \d+ \d+\n{sentence}", block)]
@@ -463,7 +532,17 @@ class InMemory(Recorder):
         came = run(history.encode(), "linearize")
         self.same(history, (came.status, came.output), (1, f"none {place} {call}\n".encode()))
 
-    def test_one_thread(self):
+    def test_pyfakefs(self) -> None:
+        """A directory is unlinked while another thread makes it, and both calls are ok."""
+        status, history, told = self.recorded("pyfakefs")
+        if "pyfakefs is missing" in told:
+            self.skipTest("pyfakefs is not there: apt-get install python3-pyfakefs")
+        found = re.fullmatch(r"round \d+: none (\d+) (\d+)\nno order explains that `.*` returned `.*`\n", told)
+        assert found
+        came = run(history.encode(), "linearize")
+        self.same(history, (status, came.status, came.output), (1, 1, f"none {found[1]} {found[2]}\n".encode()))
+
+    def test_one_thread(self) -> None:
         """What is not lawful of one thread is another kind of tree, and it stops there."""
         status, history, told = self.recorded("Tree", standing_in=self.STANDING_IN)
         self.same(
@@ -471,23 +550,27 @@ class InMemory(Recorder):
         )
         self.same(history, run(history.encode(), "linearize").status, 0)
 
-    def test_missing(self):
+    def test_missing(self) -> None:
         """Without a package, or without the library, it ends with the status that no verdict has, and with one line."""
-        for name, module in (("the package atomfs", "atomfs"), ("PyFilesystem2", "fs")):
+        for name, module, tree in (
+            ("the package atomfs", "atomfs", "MemoryFS"),
+            ("PyFilesystem2", "fs", "MemoryFS"),
+            ("pyfakefs", "pyfakefs", "pyfakefs"),
+        ):
             with self.subTest(name), tempfile.TemporaryDirectory(prefix="atomfs-") as folder:
                 pathlib.Path(folder, f"{module}.py").write_text("raise ImportError('it is not installed')\n")
                 path = f"{folder}:{packages.BINDINGS / 'python' / 'src'}"
                 message = f"examples/record/record.py: {name} is missing (it is not installed): see --help\n"
-                self.same(name, self.recorded("MemoryFS", PYTHONPATH=path), (2, "", message))
+                self.same(name, self.recorded(tree, PYTHONPATH=path), (2, "", message))
         status, _, told = self.recorded("Tree", ATOMFS_LIBRARY="/none/libatomfs.so")
         self.same("no library", (status, told.count("\n"), "; ATOMFS_LIBRARY names it" in told), (2, 1, True))
 
-    def test_refused(self):
+    def test_refused(self) -> None:
         status, _, told = self.recorded("Forest")
         self.same(
             "no tree",
             (status, told.splitlines()[-1].partition("invalid choice: ")[2]),
-            (2, "'Forest' (choose from 'MemoryFS', 'Tree')"),
+            (2, "'Forest' (choose from 'MemoryFS', 'pyfakefs', 'Tree')"),
         )
 
 

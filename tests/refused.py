@@ -13,8 +13,10 @@ import itertools
 import os
 import re
 import tempfile
+import typing
 import unittest
 import urllib.parse
+from collections.abc import Iterable, Sequence
 
 import harness
 import atomfs
@@ -23,6 +25,9 @@ import outcomes
 from atomfs import Did, Status
 from harness import Case, Outcome, with_line
 
+# A call's seat and line.
+Call = tuple[int, str]
+Calls = list[Call]
 # How many bytes a file gets whose memory is looked at.
 WRITTEN = 2**22
 RUNS = harness.DATA / "worked" / "runs"
@@ -33,15 +38,15 @@ NO_MEMORY = Outcome(4, b"", b"atomfs: out of memory\n")
 NO_WORKER = Outcome(4, b"", b"atomfs: no worker\n")
 
 
-def setUpModule():
+def setUpModule() -> None:
     harness.takes_a_process()
 
 
-def stored(name):
+def stored(name: str) -> bytes:
     return (RUNS / name).read_bytes()
 
 
-def ends_of(name):
+def ends_of(name: str) -> bytes:
     """The line of the end of a stored run that is drawn from 7."""
     end = outcomes.end_of(stored(f"{name}.drawn.text"), stored(f"{name}.script"))
     return outcomes.lines(outcomes.table([(7, end)]), every=True)
@@ -50,15 +55,18 @@ def ends_of(name):
 class Preloaded(Case):
     """A program of which one growth, or one thread, is refused."""
 
+    folder: str
+    refuse: str
+
     @classmethod
-    def setUpClass(cls):
+    def setUpClass(cls) -> None:
         cls.folder = cls.enterClassContext(tempfile.TemporaryDirectory())
         cls.refuse = harness.compiled(cls.folder, "refuse.c")
 
-    def outcome(self, words, given, **variables):
+    def outcome(self, words: list[str], given: bytes, **variables: str) -> Outcome:
         return harness.spawned(words, given, env=os.environ | {"LD_PRELOAD": self.refuse} | variables)
 
-    def whole(self, words, given):
+    def whole(self, words: list[str], given: bytes) -> tuple[Outcome, int, int]:
         """The outcome where nothing is refused, and how many growths and threads were asked for."""
         count = f"{self.folder}/count"
         came = self.outcome(words, given, REFUSE_COUNT=count)
@@ -66,14 +74,14 @@ class Preloaded(Case):
             growths, threads = map(int, file.read().split())
         return came, growths, threads
 
-    def without(self, variable, count, words, given):
+    def without(self, variable: str, count: int, words: list[str], given: bytes) -> list[Outcome]:
         """The outcomes where one is refused, each in turn, as many side by side as there are processors."""
         with concurrent.futures.ThreadPoolExecutor(os.cpu_count()) as processes:
             return list(
                 processes.map(lambda number: self.outcome(words, given, **{variable: str(number)}), range(1, count + 1))
             )
 
-    def tell(self, name, outcomes, told, *others):
+    def tell(self, name: str, outcomes: list[Outcome], told: list[Outcome], *others: Outcome) -> None:
         """Each outcome tells what was refused, or is one of the others; and all that can be told came."""
         for number, came in enumerate(outcomes, 1):
             if came not in (*told, *others):
@@ -84,7 +92,7 @@ class Preloaded(Case):
 class Program(Preloaded):
     """What the program tells of a growth or a thread that it lacks. It writes nothing then."""
 
-    def growths(self, command, name, output):
+    def growths(self, command: str, name: str, output: bytes) -> None:
         words, given = command.split(), stored(name)
         whole, growths, threads = self.whole(words, given)
         self.same(f"atomfs {command} < {name}", whole, Outcome(0, output))
@@ -93,7 +101,7 @@ class Program(Preloaded):
         told = [NO_MEMORY, NO_WORKER] if threads else [NO_MEMORY]
         self.tell(f"growths of atomfs {command} < {name}", self.without("REFUSE", growths, words, given), told, whole)
 
-    def test_growths(self):
+    def test_growths(self) -> None:
         rows = (
             ("errors", "run", "errors_of_each_call.script", stored("errors_of_each_call.text")),
             ("robin", "run --robin", "lowest_first.script", stored("lowest_first.robin.text")),
@@ -136,7 +144,7 @@ class Program(Preloaded):
         )
         self.each(rows, self.growths)
 
-    def asked_for(self, path):
+    def asked_for(self, path: str) -> tuple[int, int]:
         """How many growths a script asks for whose one path has a dot, and how many of them are told where they are refused."""
         words, given = ["run"], text_of(["atomfs 1", "thread t", f"stat {path}", "schedule", "finish"])
         whole, growths, _ = self.whole(words, given)
@@ -148,7 +156,7 @@ class Program(Preloaded):
         self.tell(f"growths of a path {path}", outcomes, [NO_MEMORY], whole, *lesser)
         return growths, outcomes.count(NO_MEMORY)
 
-    def room_for_names(self, path, more):
+    def room_for_names(self, path: str, more: int) -> None:
         growths, told = self.asked_for("/./a/b")
         self.same(
             f"growths of {path}, and how many are told: so many more than of three names",
@@ -156,7 +164,7 @@ class Program(Preloaded):
             (growths + more, told + more),
         )
 
-    def test_room_for_names(self):
+    def test_room_for_names(self) -> None:
         """Room for more than seven names is asked for in steps, each twice as large, and told where it is refused: what is wrong with a name before goes first."""
         rows = (
             ("first of eight", "/./a/b/c/d/e/f/g", 0),
@@ -168,7 +176,7 @@ class Program(Preloaded):
         )
         self.each(rows, self.room_for_names)
 
-    def threads(self, name, count, calls):
+    def threads(self, name: str, count: int, calls: int) -> None:
         given = stored(name)
         whole, _, threads = self.whole(["threads"], given)
         self.same(f"atomfs threads < {name}", (whole, threads), (Outcome(0, b"lawful calls %d\n" % calls), count))
@@ -176,23 +184,23 @@ class Program(Preloaded):
             f"threads of atomfs threads < {name}", self.without("REFUSE_THREAD", count, ["threads"], given), [NO_WORKER]
         )
 
-    def test_threads(self):
+    def test_threads(self) -> None:
         self.each((("one", "errors_of_each_call.script", 1, 57), ("three", "three_threads.script", 3, 8)), self.threads)
 
 
-def section(name):
+def section(name: bytes) -> bytes:
     """What the checks of a name write, as it is stored."""
     return STDOUT.read_bytes().split(b"==== %b\n" % name)[1].split(b"==== ")[0]
 
 
-def but_last_line(outcome):
+def but_last_line(outcome: Outcome) -> Outcome:
     return outcome._replace(output=b"".join(outcome.output.splitlines(keepends=True)[:-1]))
 
 
 class Checks(Preloaded):
     """The checks `refused` do once more what was refused, and write the same text but for its last line, which counts that."""
 
-    def test_refused(self):
+    def test_refused(self) -> None:
         with harness.program_at(
             harness.found("CHECKS", "crates/checks/out/checks", "rt run in crates/checks builds it")
         ):
@@ -320,12 +328,12 @@ write /a/d/f 0 0102030405
 """
 
 
-def lengthened(text):
+def lengthened(text: str) -> str:
     """The same calls on names of 255 bytes."""
     return re.sub("/([a-z])", lambda name: f"/{255 * name[1]}", text)
 
 
-def on_seat(seat, text):
+def on_seat(seat: int, text: str) -> Calls:
     return [(seat, line) for line in text.splitlines()]
 
 
@@ -350,20 +358,20 @@ FEW = on_seat(0, "mkdir /a\nmknod /a/f\nwrite /a/f 0 ff\nread /a/f 0 9") + on_se
 )
 
 
-def seats_of(calls):
+def seats_of(calls: Calls) -> range:
     return range(1 + max(seat for seat, _ in calls))
 
 
-def text_of(lines):
+def text_of(lines: Iterable[str]) -> bytes:
     return "".join(f"{line}\n" for line in lines).encode()
 
 
-def version_of(calls):
+def version_of(calls: Sequence[Call]) -> int:
     """The version of the limits by which calls are made."""
     return 3 if any(line.startswith("list ") for _, line in calls) else 1
 
 
-def script_of(calls):
+def script_of(calls: Calls) -> bytes:
     """A script whose threads have their turns one after the other."""
     blocks = [
         line for seat in seats_of(calls) for line in (f"thread t{seat}", *(line for at, line in calls if at == seat))
@@ -378,38 +386,39 @@ def script_of(calls):
     )
 
 
-def counts_of(calls):
+def counts_of(calls: int) -> bytes:
     return b"begun %d committed %d returned %d\n" % (calls, calls, calls)
 
 
 class Wanted:
     """What the specification says of calls one after the other: their replies, their journal, and their tree."""
 
-    def __init__(self, calls=(), version=None):
+    def __init__(self, calls: Sequence[Call] = (), version: int | None = None) -> None:
         self.version = version or version_of(calls)
-        self.model, self.entries, self.count = model.Tree(self.version), [], 0
+        self.model, self.count = model.Tree(self.version), 0
+        self.entries: list[str] = []
         for seat, line in calls:
             self.call(seat, line)
 
-    def call(self, seat, line):
+    def call(self, seat: int, line: str) -> tuple[int, bytes]:
         """The number and the reply of a call."""
         self.count += 1
         reply = self.model.apply(line.split(" "))
         self.entries += [f"begin {self.count} {seat} {line}", f"commit {self.count}", f"return {self.count} {reply}"]
         return self.count, reply.encode()
 
-    def journal(self):
+    def journal(self) -> bytes:
         opening = ["atomfs-journal 1"] if self.version == 1 else ["atomfs-journal 4", "start", "dir /", "entries"]
         return text_of([*opening, *self.entries])
 
-    def tree(self):
+    def tree(self) -> bytes:
         return text_of(self.model.text())
 
-    def run(self):
+    def run(self) -> bytes:
         return self.journal() + self.tree() + counts_of(self.count)
 
 
-def status_of(ask, *given):
+def status_of(ask: typing.Callable[..., typing.Any], *given: typing.Any) -> tuple[Status, typing.Any]:
     """The status of a function, and what it answers, or what the status is about."""
     try:
         return Status.OK, ask(*given)
@@ -423,22 +432,36 @@ class Played(atomfs.Tree):
     A function that lacks memory has changed nothing, and is asked again. `refused` has the functions of which a growth was refused, and their status.
     """
 
-    def __init__(self, case, library, version=1):
+    def __init__(self, case: Case, library: atomfs.Library, version: int = 1) -> None:
         self.library, self.handle, self.case, self.version = library, atomfs.Handle(), case, version
-        self.wanted, self.steps, self.refused = None, [], set()
+        self.known: Wanted | None = None
+        self.steps: list[tuple[Did, int]] = []
+        self.refused: set[tuple[str, str]] = set()
 
-    def open(self, limit=LIMIT):
-        opens = (self.library.atomfs_open,) if self.version == 1 else (self.library.atomfs_open_with, self.version)
-        self.done(opens[0](self.handle, limit, *opens[1:]))
+    def __enter__(self) -> "Played":
+        super().__enter__()
+        return self
 
-    def opened(self, seats):
+    @property
+    def wanted(self) -> Wanted:
+        """What is wanted of it, once it is open."""
+        assert self.known
+        return self.known
+
+    def open(self, limit: int = LIMIT) -> None:
+        if self.version == 1:
+            self.done(self.library.atomfs_open(self.handle, limit))
+        else:
+            self.done(self.library.atomfs_open_with(self.handle, limit, self.version))
+
+    def opened(self, seats: Iterable[int]) -> None:
         """Opens the tree, with seats of these numbers."""
         self.asked("open", self.open)
-        self.wanted = Wanted(version=self.version)
+        self.known = Wanted(version=self.version)
         for seat in seats:
             self.case.same("the number of a seat", self.asked("seat", self.seat), seat)
 
-    def asked(self, name, ask, *given):
+    def asked(self, name: str, ask: typing.Callable[..., typing.Any], *given: typing.Any) -> typing.Any:
         """What a function answers; and again, where it lacks memory. It may do so only where a growth was refused."""
         refusals = self.library.lib.refusals()
         status, answer = status_of(ask, *given)
@@ -452,9 +475,9 @@ class Played(atomfs.Tree):
         self.case.same((name, *given), status, Status.OK)
         return answer
 
-    def is_unchanged(self, name):
+    def is_unchanged(self, name: str) -> None:
         """All is as it was before a function that lacked memory."""
-        if self.wanted is None:
+        if self.known is None:
             self.case.same(
                 f"close behind {name}, which lacked memory", self.library.atomfs_close(self.handle), Status.CLOSED
             )
@@ -462,36 +485,36 @@ class Played(atomfs.Tree):
             self.case.same(f"the journal behind {name}, which lacked memory", self.journal(), self.wanted.journal())
             self.case.same(f"the tree behind {name}, which lacked memory", self.tree(), self.wanted.tree())
 
-    def stands(self):
+    def stands(self) -> None:
         """The journal and the tree are those that are wanted."""
         self.case.same("the journal", self.asked("journal", self.journal), self.wanted.journal())
         self.case.same("the tree", self.asked("tree", self.tree), self.wanted.tree())
 
-    def has_returned(self, seat, line, number):
+    def has_returned(self, seat: int, line: str, number: int) -> bytes:
         """A call that has returned has the number and the reply that are wanted. Answers the reply."""
         wanted, reply = self.wanted.call(seat, line)
         self.case.same(f"the number of {line}", number, wanted)
         self.case.same(f"the reply of {line}", self.asked("reply", self.reply, number), reply)
         return reply
 
-    def make(self, seat, line):
+    def make(self, seat: int, line: bytes) -> tuple[int, bytes]:
         """The number and the reply of a call that is made at once. The wrapper's own hides that a reply was untold."""
         out, count, number = ctypes.create_string_buffer(1024), ctypes.c_size_t(), ctypes.c_uint64()
         status = self.library.atomfs_call(self.handle, seat, line, len(line), out, len(out), count, number)
         self.done(status, number.value)
         return number.value, out.raw[: count.value]
 
-    def by_call(self, seat, line):
+    def by_call(self, seat: int, line: str) -> None:
         """A call that is made at once."""
         number, told = self.asked("call", self.make, seat, line.encode())
         reply = self.has_returned(seat, line, number)
         if told is not None:
             self.case.same(f"the reply that {line} tells", told, reply)
 
-    def typed(self, seat, line):
+    def typed(self, seat: int, line: str) -> bytes:
         """What the typed call of a line answers, as the text of a reply."""
-        name, path, *more = line.split(" ")
-        path = urllib.parse.unquote_to_bytes(path)
+        name, word, *more = line.split(" ")
+        path = urllib.parse.unquote_to_bytes(word)
         if name in ("mkdir", "mknod", "unlink", "rmdir"):
             answer = getattr(self, name)(seat, path)
         elif name in ("rename", "exchange"):
@@ -510,20 +533,20 @@ class Played(atomfs.Tree):
             return f"bytes {answer.hex() or '-'}".encode()
         return b"ok" if answer is None else b"wrote %d" % answer
 
-    def told(self, seat, line):
+    def told(self, seat: int, line: str) -> bytes:
         try:
             return self.typed(seat, line)
         except OSError as error:
             return f"failed {errno.errorcode[error.errno]}".encode()
 
-    def by_typed(self, seat, line):
+    def by_typed(self, seat: int, line: str) -> None:
         """A typed call. Where its names were untold, they are asked for again."""
         told = self.asked("typed", self.told, seat, line)
         self.case.same(
             f"what the typed call of {line} tells", told, self.has_returned(seat, line, self.wanted.count + 1)
         )
 
-    def returns(self, seat):
+    def returns(self, seat: int) -> None:
         """Steps the call of a seat to its return."""
         for _ in range(MOST_STEPS):
             self.steps.append(self.step(seat))
@@ -531,7 +554,7 @@ class Played(atomfs.Tree):
                 return
         self.case.fail("a call that is alone does not return")
 
-    def by_steps(self, seat, line):
+    def by_steps(self, seat: int, line: str) -> None:
         """A call that begins and is stepped to its return."""
         number = self.asked("begin", self.begin, seat, line.encode())
         self.asked("step", self.returns, seat)
@@ -541,8 +564,11 @@ class Played(atomfs.Tree):
 class Library(Case):
     """What the functions of the library answer where a growth is refused, and then."""
 
+    library: atomfs.Library
+    heap: typing.Any
+
     @classmethod
-    def setUpClass(cls):
+    def setUpClass(cls) -> None:
         archive = harness.found("ARCHIVE", "crates/atomfs_c/out/libatomfs_c.a", "embed/build builds it")
         folder = cls.enterClassContext(tempfile.TemporaryDirectory())
         cls.library = atomfs.Library(
@@ -550,18 +576,18 @@ class Library(Case):
         )
         cls.heap = cls.library.lib
 
-    def setUp(self):
+    def setUp(self) -> None:
         self.heap.refuse(0, 0)
 
-    def nothing_is_held(self):
+    def nothing_is_held(self) -> None:
         self.same("how many blocks are in use where no tree is open", self.heap.blocks(), 0)
 
-    def all_came(self, came, wanted):
+    def all_came(self, came: set[typing.Any], wanted: set[typing.Any]) -> None:
         """All rows together came to all that is wanted."""
         if "ROW" not in os.environ:
             self.same("the functions of which a growth was refused, and their status", sorted(came), sorted(wanted))
 
-    def played(self, calls, by, number=0):
+    def played(self, calls: Calls, by: typing.Callable[["Played", int, str], object], number: int = 0) -> Played:
         """Calls on a tree of their own, where the growth of a number is refused: from then on it is looked at after each call."""
         self.heap.refuse(number, number)
         with Played(self, self.library, version_of(calls)) as tree:
@@ -574,19 +600,19 @@ class Library(Case):
         self.nothing_is_held()
         return tree
 
-    def growths_of(self, ask, *given):
+    def growths_of(self, ask: typing.Callable[..., typing.Any], *given: typing.Any) -> tuple[typing.Any, range]:
         """What a function answers where nothing is refused, and the numbers of the growths that it asks for."""
         self.heap.refuse(0, 0)
         return ask(*given), range(1, 1 + self.heap.growths())
 
-    def in_turn(self, by, wanted):
+    def in_turn(self, by: typing.Callable[["Played", int, str], object], wanted: set[tuple[str, str]]) -> None:
         """Plays each list of calls once for each growth, which is refused."""
         rows, came = [], set()
         for name, calls in LISTS.items():
             whole, growths = self.growths_of(self.played, calls, by)
             rows += [(f"{name}, growth {number}", calls, number, whole.steps) for number in growths]
 
-        def look(calls, number, steps):
+        def look(calls: Calls, number: int, steps: list[tuple[Did, int]]) -> None:
             tree = self.played(calls, by, number)
             self.same("how many growths were refused", self.heap.refusals(), 1)
             self.same("what the steps did", tree.steps, steps)
@@ -597,15 +623,15 @@ class Library(Case):
             came, wanted | {(function, "NO_MEMORY") for function in ("open", "seat", "reply", "journal", "tree")}
         )
 
-    def test_calls(self):
+    def test_calls(self) -> None:
         """Calls that are made at once. A step of theirs can do without a smaller block."""
         self.in_turn(Played.by_call, {("call", "NO_MEMORY"), ("call", "UNTOLD"), ("call", "OK")})
 
-    def test_typed(self):
+    def test_typed(self) -> None:
         """Typed calls. A step of theirs can do without a smaller block, and names that are untold are asked for again."""
         self.in_turn(Played.by_typed, {("typed", "NO_MEMORY"), ("typed", "OK")})
 
-    def checkpointed(self, calls, number):
+    def checkpointed(self, calls: Calls, number: int) -> tuple[int, tuple[str, str]]:
         """A checkpoint where the growth of a number is refused, and another one: what is handed out, and what stands then."""
         self.heap.refuse(0, 0)
         with Played(self, self.library) as tree:
@@ -629,7 +655,7 @@ class Library(Case):
         self.nothing_is_held()
         return growths, ("checkpoint", status.name)
 
-    def test_checkpoint(self):
+    def test_checkpoint(self) -> None:
         """It asks for memory only for calls that change something, and cannot do without."""
         growths, _ = self.checkpointed(LISTS["one seat"], 0)
         came = set()
@@ -640,7 +666,7 @@ class Library(Case):
         self.all_came(came, {("checkpoint", "NO_MEMORY")})
 
     @contextlib.contextmanager
-    def behind_calls(self):
+    def behind_calls(self) -> typing.Iterator[Played]:
         """A tree on which calls of one seat were made."""
         self.heap.refuse(0, 0)
         with Played(self, self.library) as tree:
@@ -650,7 +676,9 @@ class Library(Case):
             yield tree
         self.nothing_is_held()
 
-    def refuses(self, number, ask, *given):
+    def refuses(
+        self, number: int, ask: typing.Callable[..., typing.Any], *given: typing.Any
+    ) -> tuple[tuple[Status, typing.Any], int, int]:
         """What a function answers where the growth of a number is refused, and how many were asked for and refused."""
         self.heap.refuse(number, number)
         answer = status_of(ask, *given)
@@ -658,7 +686,7 @@ class Library(Case):
         self.heap.refuse(0, 0)
         return answer, growths, refusals
 
-    def looked_at(self, name, wanted, number=0):
+    def looked_at(self, name: str, wanted: typing.Any, number: int = 0) -> tuple[int, tuple[str, str]]:
         """A verdict or a forgetting where the growth of a number is refused, and another one."""
         with self.behind_calls() as tree:
             (status, answer), growths, refusals = self.refuses(number, getattr(tree, name))
@@ -671,7 +699,7 @@ class Library(Case):
             self.same("the entries that are left", tree.entries()[1], 0 if name == "forget" else 3 * tree.wanted.count)
         return growths, (name, status.name)
 
-    def test_verdict_and_forget(self):
+    def test_verdict_and_forget(self) -> None:
         """In a verdict, names that are listed once more can do without a smaller block; what is forgotten is not listed once more."""
         looks, came = (("verdict", (0, 0)), ("forget", len(LISTS["one seat"]))), set()
         rows = (
@@ -682,7 +710,7 @@ class Library(Case):
         self.each(rows, lambda *look: came.add(self.looked_at(*look)[1]))
         self.all_came(came, {("verdict", "NO_MEMORY"), ("verdict", "OK"), ("forget", "NO_MEMORY")})
 
-    def forgotten(self, place=0, number=0):
+    def forgotten(self, place: int = 0, number: int = 0) -> tuple[list[int], set[str]]:
         """A tree that forgets time and again, where the growth of a number is refused at one of these times, and again then: how many growths each time asked for, and the
         statuses."""
         self.heap.refuse(0, 0)
@@ -709,7 +737,7 @@ class Library(Case):
         self.nothing_is_held()
         return asked, came
 
-    def test_forget_again(self):
+    def test_forget_again(self) -> None:
         """A tree is copied once. Later few calls are played on the copy, and then on the tree that was in its place; a look is not played."""
         asked, came = self.forgotten()[0], set()
         rows = (
@@ -722,10 +750,10 @@ class Library(Case):
         self.assertLess(asked[2], asked[1])
         self.same("how many growths it asks for to forget looks", asked[3], 0)
 
-    def begun_at(self, how, number=0):
+    def begun_at(self, how: str, number: int = 0) -> tuple[int, bool]:
         """A tree that opens at another one where the growth of a number is refused, and another such: how many there are, and whether one was opened."""
         with self.behind_calls() as tree:
-            given = {"text": tree.tree()} if how == "open_from" else {"other": tree}
+            given: dict[str, typing.Any] = {"text": tree.tree()} if how == "open_from" else {"other": tree}
             (status, second), growths, refusals = self.refuses(number, lambda: atomfs.Tree(self.library, 100, **given))
             self.assertIn(status, (Status.OK, Status.NO_MEMORY) if refusals else (Status.OK,))
             if status == Status.NO_MEMORY:
@@ -737,14 +765,14 @@ class Library(Case):
             tree.stands()
         return growths, status == Status.OK
 
-    def test_open_at_a_tree(self):
+    def test_open_at_a_tree(self) -> None:
         """By a text, and where another tree stands. What can do without a smaller block does so."""
         for how in ("open_from", "open_at"):
             growths, opened = self.begun_at(how)
             self.assertTrue(opened)
             self.assertFalse(all([self.begun_at(how, number)[1] for number in range(1, 1 + growths)]))
 
-    def kept(self, number=0):
+    def kept(self, number: int = 0) -> tuple[int, bool]:
         """A call of a tree that forgets, where the growth of a number is refused, and another one. Whether what stood before stayed, and the call went on."""
         with self.behind_calls() as tree:
             tree.keep(0)
@@ -754,17 +782,17 @@ class Library(Case):
             self.same("the number of the next call", tree.make(0, b"stat /")[0], 1)
         return growths, status == Status.OK and answer[0] == 1 + len(LISTS["one seat"])
 
-    def test_keep(self):
+    def test_keep(self) -> None:
         """Where there is no memory to forget, the call goes on, and the next one forgets."""
         growths, went_on = self.kept()
         self.assertFalse(went_on)
         self.assertTrue(any([self.kept(number)[1] for number in range(1, 1 + growths)]))
 
-    def test_steps(self):
+    def test_steps(self) -> None:
         """Calls step by step: a begin may lack memory, and no step."""
         self.in_turn(Played.by_steps, {("begin", "NO_MEMORY"), ("step", "OK")})
 
-    def begun(self, seat, line, number):
+    def begun(self, seat: int, line: bytes, number: int) -> tuple[int, Status, Status]:
         """How often a growth was refused to a begin on a tree of one node, whose seat 0 is busy; its status, and that of the same begin again."""
         self.heap.refuse(0, 0)
         with Played(self, self.library) as tree:
@@ -775,18 +803,20 @@ class Library(Case):
             self.heap.refuse(number, number)
             status, refusals = status_of(tree.begin, seat, line)[0], self.heap.refusals()
             self.heap.refuse(0, 0)
-            self.same(f"the journal behind {line}", tree.entries(), (b"begin 1 0 stat /\n", 1))
+            self.same(f"the journal behind {line!r}", tree.entries(), (b"begin 1 0 stat /\n", 1))
             return refusals, status, status_of(tree.begin, seat, line)[0]
 
-    def no_begin(self, seat, line, why):
+    def no_begin(self, seat: int, line: bytes, why: Status) -> None:
         for number in itertools.count(1):
             refusals, status, again = self.begun(seat, line, number)
-            self.same(f"{line}, growth {number} refused", (status, again), (Status.NO_MEMORY if refusals else why, why))
+            self.same(
+                f"{line!r}, growth {number} refused", (status, again), (Status.NO_MEMORY if refusals else why, why)
+            )
             if not refusals:
                 break
-        self.assertGreater(number, 1, f"{line} asks for no growth")
+        self.assertGreater(number, 1, f"{line!r} asks for no growth")
 
-    def test_no_begin(self):
+    def test_no_begin(self) -> None:
         """A begin that is refused for another reason too, where a growth is refused: first for want of memory, and then for the reason."""
         rows = (
             ("line", 1, b"stat", Status.BAD_LINE),
@@ -798,7 +828,7 @@ class Library(Case):
         )
         self.each(rows, self.no_begin)
 
-    def growths_of_begin(self, seat, line, limit):
+    def growths_of_begin(self, seat: int, line: bytes, limit: int) -> tuple[int, Status, int]:
         """How many growths a begin asks for, beside a call under way on seat 0, and its status."""
         with Played(self, self.library) as tree:
             tree.open(limit)
@@ -808,7 +838,7 @@ class Library(Case):
             self.heap.refuse(0, 0)
             return self.heap.growths(), status_of(tree.begin, seat, line)[0], self.heap.growths()
 
-    def test_order_of_refusals(self):
+    def test_order_of_refusals(self) -> None:
         """A begin on a busy seat, or with no number left, asks for no more memory than its line needs to be read: that it is refused comes before what it
         would hold. A seat that is busy comes before all."""
         _, read, reading = self.growths_of_begin(1, b"read /a 0 x", LIMIT)
@@ -822,7 +852,7 @@ class Library(Case):
         _, begun, growths = self.growths_of_begin(1, b"mkdir /a", LIMIT)
         self.same("one that begins", (begun, growths > reading), (Status.OK, True))
 
-    def held(self, line, number):
+    def held(self, line: bytes | None, number: int) -> tuple[list[tuple[Did, int]], int]:
         """What the steps of two calls do, of which one holds a node for which the other one waits, where in between a begin on a third seat is refused the
         growth of a number; and how many were refused. With no line nothing begins in between."""
         self.heap.refuse(0, 0)
@@ -842,11 +872,11 @@ class Library(Case):
                 self.heap.refuse(0, 0)
                 if not refusals:
                     return did, refusals
-                self.same(f"{line}, growth {number} refused", status, Status.NO_MEMORY)
+                self.same(f"{line!r}, growth {number} refused", status, Status.NO_MEMORY)
             did += [tree.step(seat) for seat in (2, 0, 2) for _ in range(5)]
         return did, refusals
 
-    def holds(self, line):
+    def holds(self, line: bytes) -> None:
         wanted, _ = self.held(None, 0)
         self.same(
             "one waits for the other",
@@ -857,14 +887,14 @@ class Library(Case):
             did, refusals = self.held(line, number)
             if not refusals:
                 break
-            self.same(f"the steps behind {line}, growth {number} refused", did, wanted)
-        self.assertGreater(number, 1, f"{line} asks for no growth")
+            self.same(f"the steps behind {line!r}, growth {number} refused", did, wanted)
+        self.assertGreater(number, 1, f"{line!r} asks for no growth")
 
-    def test_holders(self):
+    def test_holders(self) -> None:
         """A begin of which a growth is refused leaves each node with the call that holds it, and those that wait for it waiting."""
         self.each(((line.decode(), line) for line in (b"mkdir /a/d", b"stat /a", b"rename /a /e")), self.holds)
 
-    def begun_again(self, line, number):
+    def begun_again(self, line: bytes, number: int) -> int:
         """How often a growth was refused to a begin on a tree with one number left. A refused one keeps neither that number nor any node: a call of another seat
         runs past it, and the same begin has the number."""
         self.heap.refuse(0, 0)
@@ -876,24 +906,29 @@ class Library(Case):
             status, refusals = status_of(tree.begin, 0, line)[0], self.heap.refusals()
             self.heap.refuse(0, 0)
             if refusals:
-                self.same(f"{line}, growth {number} refused", status, Status.NO_MEMORY)
+                self.same(f"{line!r}, growth {number} refused", status, Status.NO_MEMORY)
                 self.same("a call of another seat, the first of all", tree.make(1, b"stat /"), (1, b"stat dir 0"))
                 status = status_of(tree.begin, 0, line)[0]
             others = status_of(tree.begin, 1, b"mkdir /other")[0]
-            self.same(f"{line}, and one that needs a number more", (status, others), (Status.OK, Status.FULL))
-        return refusals
+            self.same(f"{line!r}, and one that needs a number more", (status, others), (Status.OK, Status.FULL))
+        return int(refusals)
 
-    def keeps_nothing(self, line):
+    def keeps_nothing(self, line: bytes) -> None:
         for number in itertools.count(1):
             if not self.begun_again(line, number):
                 break
-        self.assertGreater(number, 1, f"{line} asks for no growth")
+        self.assertGreater(number, 1, f"{line!r} asks for no growth")
 
-    def test_last_number(self):
+    def test_last_number(self) -> None:
         """A begin of which a growth is refused keeps no number of a node and no node."""
         self.each(((line.decode(), line) for line in (b"mkdir /a", b"mknod /a")), self.keeps_nothing)
 
-    def texts(self, ask, texts, wanted):
+    def texts(
+        self,
+        ask: typing.Callable[..., typing.Any],
+        texts: dict[str, tuple[bytes, typing.Any]],
+        wanted: set[tuple[str, str]],
+    ) -> None:
         """A function of texts, and what is wanted of each: it is asked once for each growth, which is refused, and again."""
         rows, came = [], set()
         for name, (given, answer) in texts.items():
@@ -901,7 +936,7 @@ class Library(Case):
             self.same(given, whole, answer)
             rows += [(f"{name}, growth {number}", given, number, answer) for number in growths]
 
-        def look(given, number, answer):
+        def look(given: bytes, number: int, answer: typing.Any) -> None:
             self.heap.refuse(number, number)
             first = status_of(ask, given)
             came.add((ask.__name__, first[0].name))
@@ -913,36 +948,41 @@ class Library(Case):
         self.each(rows, look)
         self.all_came(came, wanted)
 
-    def test_run(self):
+    def test_run(self) -> None:
         """Scripts. A step of theirs can do without a smaller block, and their reading without the paths that are kept; a path that is none is none only where
         its memory was not refused."""
-        scripts = {name: (script_of(calls), (Status.OK, Wanted(calls).run())) for name, calls in LISTS.items()}
+        scripts: dict[str, tuple[bytes, typing.Any]] = {
+            name: (script_of(calls), (Status.OK, Wanted(calls).run())) for name, calls in LISTS.items()
+        }
         scripts["no path"] = b"atomfs 1\nthread t\nmkdir /a\nmkdir /a/./b\nschedule\nfinish\n", (Status.BAD_PATH, 4)
         self.texts(self.library.run, scripts, {("run", "NO_MEMORY"), ("run", "OK"), ("run", "BAD_PATH")})
 
-    def test_check(self):
+    def test_check(self) -> None:
         """Journals. Their reading can do without the paths that are kept; a path that is none is none only where its memory was not refused."""
-        journals = {name: (Wanted(calls).journal(), (Status.OK, b"lawful\n")) for name, calls in LISTS.items()}
+        journals: dict[str, tuple[bytes, typing.Any]] = {
+            name: (Wanted(calls).journal(), (Status.OK, b"lawful\n")) for name, calls in LISTS.items()
+        }
         journals["no path"] = b"atomfs-journal 1\nbegin 1 0 mkdir /a\nbegin 2 1 mkdir /a/./b\n", (Status.BAD_PATH, 3)
         self.texts(self.library.check, journals, {("check", "NO_MEMORY"), ("check", "OK"), ("check", "BAD_PATH")})
 
-    def test_tools(self):
+    def test_tools(self) -> None:
         """Traces, pictures, schedules and drawn runs of a script, a picture of a journal; and what a word means, for which no memory is asked."""
         script, journal = script_of(FEW), Wanted(FEW).journal()
-        for ask, given in (
+        asks: tuple[tuple[typing.Callable[..., typing.Any], bytes], ...] = (
             (self.library.trace, script),
             (self.library.draw, script),
             (self.library.draw, journal),
             (self.library.schedule, script),
             (self.library.seeds, script),
-        ):
+        )
+        for ask, given in asks:
             whole = status_of(ask, given)
             self.same(ask.__name__, whole[0], Status.OK)
             self.texts(ask, {ask.__name__: (given, whole)}, {(ask.__name__, "NO_MEMORY"), (ask.__name__, "OK")})
         whole, growths = self.growths_of(self.library.explain, b"Nul")
         self.same("what Nul means, and the growths that it asks for", (whole[:5], len(growths)), (b"Nul: ", 0))
 
-    def test_linearize(self):
+    def test_linearize(self) -> None:
         """Histories, in each form. Their reading can do without room that is kept; a path that is none is none only where its memory was not refused."""
         begun = b"atomfs-journal 1\nbegin 1 0 mkdir /a\nbegin 2 1 stat /a\nreturn 1 ok\n"
         texts = {
@@ -953,7 +993,7 @@ class Library(Case):
         }
         for tell in atomfs.Tell:
 
-            def linearize(history, tell=tell):
+            def linearize(history: bytes, tell: atomfs.Tell = tell) -> typing.Any:
                 return self.library.linearize(history, tell)
 
             came = {name: (text, status_of(linearize, text)) for name, text in texts.items()}
@@ -964,10 +1004,10 @@ class Library(Case):
             )
             self.texts(linearize, came, {("linearize", "NO_MEMORY"), ("linearize", "OK"), ("linearize", "BAD_PATH")})
 
-    def test_check_path(self):
+    def test_check_path(self) -> None:
         """Paths. One that is none, and has no more names than are read on the stack, asks for no memory; nor does the root."""
 
-        def check_path(path):
+        def check_path(path: bytes) -> None:
             if (status := self.library.check_path(path)) != Status.OK:
                 raise atomfs.Error(status)
 
@@ -990,17 +1030,17 @@ class Library(Case):
         ):
             _, growths = self.growths_of(self.library.check_path, path)
             self.same(
-                f"what is said of {path}, and the growths that it asks for",
+                f"what is said of {path!r}, and the growths that it asks for",
                 (self.library.check_path(path), len(growths)),
                 (status, 0),
             )
 
-    def refuse_every(self, tree):
+    def refuse_every(self, tree: Played) -> None:
         """From now on every growth is refused."""
         self.heap.refuse(1, EVERY)
         self.same("the tree, where every growth is refused", status_of(tree.tree)[0], Status.NO_MEMORY)
 
-    def stepped(self, calls, place, refuses):
+    def stepped(self, calls: Calls, place: int, refuses: bool) -> list[tuple[Did, int]]:
         """What the steps of a call do, behind the calls before it; with `refuses` no growth is granted behind its begin."""
         seat, line = calls[place]
         self.heap.refuse(0, 0)
@@ -1017,10 +1057,10 @@ class Library(Case):
             tree.stands()
         return tree.steps
 
-    def promised(self, calls, place):
+    def promised(self, calls: Calls, place: int) -> None:
         self.same("what the steps did", self.stepped(calls, place, True), self.stepped(calls, place, False))
 
-    def test_promised_room(self):
+    def test_promised_room(self) -> None:
         """A call that has begun returns its reply where every further growth is refused."""
         rows = [
             (f"{name}, call {place + 1}: {calls[place][1]}", calls, place)
@@ -1029,7 +1069,9 @@ class Library(Case):
         ]
         self.each(rows, self.promised)
 
-    def all_stepped(self, calls, before, version, refuses):
+    def all_stepped(
+        self, calls: list[str], before: list[str], version: int, refuses: bool
+    ) -> tuple[list[tuple[Did, int]], bytes]:
         """What the steps of a call of each kind do, all of them under way, and the text of the run; with `refuses` no growth is granted behind their begins."""
         self.heap.refuse(0, 0)
         with Played(self, self.library, version) as tree:
@@ -1044,13 +1086,13 @@ class Library(Case):
             self.heap.refuse(0, 0)
             return did, tree.journal() + tree.tree() + counts_of(tree.wanted.count + len(calls))
 
-    def many_promised(self, calls, before, version):
+    def many_promised(self, calls: list[str], before: list[str], version: int) -> None:
         did, run = self.all_stepped(calls, before, version, True)
         self.same("what the steps did, and the run", (did, run), self.all_stepped(calls, before, version, False))
         self.same(run, model.replayed(run.decode()), None)
         self.assertLessEqual({Did.WAIT, Did.HELP, Did.CARRY_OUT}, {one for one, _ in did})
 
-    def test_promised_room_of_many(self):
+    def test_promised_room_of_many(self) -> None:
         """The same of a call of each kind, all of them under way: some wait, and an exchange or a rename helps others. Once more on names of 255 bytes."""
         texts = UNDER_WAY, BEFORE
         rows = ("short names", *map(str.splitlines, texts), 1), (
@@ -1060,7 +1102,7 @@ class Library(Case):
         )
         self.each(rows, self.many_promised)
 
-    def bytes_kept(self, size):
+    def bytes_kept(self, size: int) -> float:
         """How many times its bytes a tree by the third limits keeps of a file that is written in pieces of a size."""
         with atomfs.Tree(self.library, 2, 3) as tree:
             seat = tree.seat()
@@ -1068,11 +1110,11 @@ class Library(Case):
             before = self.heap.bytes()
             for offset in range(0, WRITTEN, size):
                 tree.write(seat, b"/f", offset, bytes([offset // size % 251]) * size)
-            kept = (self.heap.bytes() - before) / WRITTEN
+            kept: float = (self.heap.bytes() - before) / WRITTEN
             self.same("the last byte", tree.read(seat, b"/f", WRITTEN - 1, 1), bytes([(WRITTEN // size - 1) % 251]))
         return kept
 
-    def test_shared_writes(self):
+    def test_shared_writes(self) -> None:
         """A file shares with the journal what is written in pieces of up to 256 KiB; of a larger piece it has a copy."""
         shared = [(f"{size} bytes", size) for size in (2**14, 2**16, 2**18)]
         self.each(shared, lambda size: self.assertLess(self.bytes_kept(size), 1.1))

@@ -16,7 +16,7 @@ JOURNALS = 12
 SCRIPTS = 4
 RUNS = 3
 CALL_WORDS = (
-    b"atomfs: CALL is THREAD#NUMBER: m#3 is the third call of thread m, and of a journal 0#3 the third on seat 0\n"
+    b"atomfs: CALL is THREAD#NUMBER: m#3 is the third call of thread m, and with a journal 0#3 is the third on seat 0\n"
 )
 NO_CALL = b"atomfs: there is no such call, or it does not commit\n"
 # The schedules of a run: its own words, and two others.
@@ -251,7 +251,7 @@ class Rows(Case):
                         (
                             "--at 0",
                             b"atomfs 1\nthread t\nmkdir /a\nschedule\nt !checkpoint\n",
-                            Outcome(1, b"", b"atomfs: call 1 under way\n"),
+                            Outcome(1, b"", b"atomfs: call 1 is pending\n"),
                         ),
                     )
                 )

@@ -81,7 +81,7 @@ class Shrinks(Case):
         given = f"atomfs shrink --where '{what}'\n{script.text().decode()}"
         came = run(script.text(), "shrink", "--where", what)
         if not has_it(script, what):
-            return self.same(given, came, Outcome(1, b"", b"atomfs: its run has it not\n"))
+            return self.same(given, came, Outcome(1, b"", b"atomfs: its run does not have it\n"))
         told = TOLD.fullmatch(came.message)
         self.assertTrue(came.status == 0 and told, f"{given}\n{came}")
         assert told is not None
@@ -150,6 +150,26 @@ class Rows(Case):
                     ),
                 ),
                 (
+                    "one of two",
+                    "reply m#2 failed ENOENT or tree dir /none and tree dir /",
+                    RACE,
+                    Outcome(
+                        0,
+                        b"atomfs 1\n# two threads\nthread m\nmkdir /a/d\nthread r\nschedule\n# the rest\nfinish\n",
+                        b"atomfs: calls 1, words 1, where reply m#1 failed ENOENT or tree dir /none and tree dir /\n",
+                    ),
+                ),
+                (
+                    "the calls of all alternatives stay",
+                    "tree dir / or helped m#3 and not helped m#1 or waits r#1",
+                    RACE,
+                    Outcome(
+                        0,
+                        b"atomfs 1\n# two threads\nthread m\nmkdir /a\nmkdir /e\nthread r\nrename /a /b\nschedule\n# the rest\n",
+                        b"atomfs: calls 3, words 0, where tree dir / or helped m#2 and not helped m#1 or waits r#1\n",
+                    ),
+                ),
+                (
                     "checkpoints go",
                     "tree dir /a",
                     b"atomfs 1\nthread m\nmkdir /a\nmkdir /b\nschedule\nm*5 !checkpoint m*9 !checkpoint finish\n",
@@ -184,8 +204,14 @@ class Rows(Case):
 
     def test_not_had(self) -> None:
         """Nothing is written."""
-        rows = ("reply m#2 ok", "tree dir /none", "not tree dir /", "before m#2 m#1")
-        self.all_end((what, what, RACE, Outcome(1, b"", b"atomfs: its run has it not\n")) for what in rows)
+        rows = (
+            "reply m#2 ok",
+            "tree dir /none",
+            "not tree dir /",
+            "before m#2 m#1",
+            "tree dir / and reply m#2 ok or tree dir /none",
+        )
+        self.all_end((what, what, RACE, Outcome(1, b"", b"atomfs: its run does not have it\n")) for what in rows)
 
     def test_no_run(self) -> None:
         under_way = b"atomfs 1\nthread m\nmkdir /a\nschedule\nm !checkpoint\n"

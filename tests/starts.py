@@ -5,6 +5,7 @@ What a run from a tree writes is what a run writes that comes to the tree by cal
 import os
 import shlex
 import tempfile
+import typing
 import unittest
 
 import checkpoints
@@ -22,11 +23,11 @@ ONE_CALL = b"atomfs 1\nthread t\nmkdir /b\nschedule\nfinish\n"
 FOLDER = tempfile.TemporaryDirectory()
 
 
-def of(ending):
+def of(ending: str) -> bytes:
     return MOVED.with_suffix(f".{ending}").read_bytes()
 
 
-def in_file(name, text):
+def in_file(name: str, text: bytes) -> str:
     """The path of a file with this text."""
     path = f"{FOLDER.name}/{name}"
     with open(path, "wb") as file:
@@ -38,15 +39,15 @@ def in_file(name, text):
 CROWD = [f"file /{number:03} -" for number in range(300)]
 
 
-def tree_of(*nodes):
+def tree_of(*nodes: str) -> bytes:
     return checkpoints.text_of("tree", "dir /", *nodes)
 
 
-def journal_of(version, *nodes):
+def journal_of(version: int, *nodes: str) -> bytes:
     return checkpoints.text_of(f"atomfs-journal {version}", "start", "dir /", *nodes, "entries")
 
 
-def played(pieces):
+def played(pieces: typing.Sequence[typing.Sequence[str]]) -> bytes:
     """The text of the tree that the calls of some pieces make."""
     tree = model.Tree()
     for calls in pieces:
@@ -55,7 +56,7 @@ def played(pieces):
     return checkpoints.text_of(*tree.text())
 
 
-def many(nodes):
+def many(nodes: int) -> bytes:
     """The text of a tree of so many nodes: no directory has more than 256 entries."""
     names = [f"{number:02x}" for number in range(256)]
     left, lines = nodes - 1, []
@@ -70,10 +71,10 @@ def many(nodes):
 
 
 class Starts(harness.Case):
-    def ends(self, words, given, wanted):
+    def ends(self, words: typing.Sequence[str], given: bytes, wanted: Outcome) -> None:
         self.same(f"atomfs {shlex.join(words)}\n{given.decode()}", run(given, *words), wanted)
 
-    def test_schedules(self):
+    def test_schedules(self) -> None:
         """From the tree alone, and from a journal that starts at it; the journal that is written starts there too."""
         tree, text, again = f"{MOVED}.tree", of("text"), f"{MOVED}.text"
         self.each(
@@ -125,13 +126,13 @@ class Starts(harness.Case):
                     "a call is under way",
                     ("run", "--from", tree),
                     b"atomfs 1\nthread t\nmkdir /b\nschedule\nt !checkpoint\n",
-                    Outcome(1, b"", b"atomfs: call 1 under way\n"),
+                    Outcome(1, b"", b"atomfs: call 1 is pending\n"),
                 ),
             ),
             self.ends,
         )
 
-    def test_third_limits(self):
+    def test_third_limits(self) -> None:
         """From a directory of more names than a call answers."""
         calls = [
             "readdir /",
@@ -159,14 +160,14 @@ class Starts(harness.Case):
             self.ends(("run", "--from", in_file(f"crowd, {name}", text)), given, Outcome(0, wanted))
         self.ends(("check",), wanted, Outcome(0, b"lawful\n"))
 
-    def test_behind_one_another(self):
+    def test_behind_one_another(self) -> None:
         """A run from the tree that calls made is the run that makes these calls, and begins again behind them."""
 
-        def look(number):
+        def look(number: int) -> None:
             pieces = checkpoints.drawn_pieces(number)
             wanted = Outcome(0, checkpoints.piece_text(pieces))
             tree = in_file(f"tree_{number}", played(pieces[:-1]))
-            calls = [[], *([] for piece in pieces[1:-1]), pieces[-1]]
+            calls: list[list[str]] = [[], *(list[str]() for piece in pieces[1:-1]), pieces[-1]]
             given = checkpoints.in_pieces(calls, "finish").replace(b" !checkpoint", b"")
             self.ends(("run",), checkpoints.in_pieces(pieces), wanted)
             self.ends(("run", "--from", tree), given, wanted)
@@ -174,12 +175,13 @@ class Starts(harness.Case):
 
         self.each(((f"pieces_{number}", number) for number in range(SCRIPTS)), look)
 
-    def refused(self, words, text, given, told):
+    def refused(self, words: typing.Sequence[str], text: bytes, given: bytes, told: str) -> None:
+        assert self.row
         path = in_file("-".join(self.row.split()), text)
         wanted = Outcome(3, b"", f"atomfs: {path}: {told}\n".encode())
         self.ends((*words, "--from", path), given, with_line(wanted, text, is_tree=True))
 
-    def test_files_without_a_tree(self):
+    def test_files_without_a_tree(self) -> None:
         long, short = "dir /" + "n" * 33, "dir /" + "n" * 32
         large = "file /f " + "61" * 65_537
         second, third = (ONE_CALL.replace(b"atomfs 1", b"atomfs %d" % version) for version in (2, 3))
@@ -252,15 +254,16 @@ class Starts(harness.Case):
         self.each(((name, ("run",), *rest) for name, *rest in rows), self.refused)
         self.each(((f"{name}, by round robin", ("run", "--robin"), *rest) for name, *rest in rows[:5]), self.refused)
 
-    def at_limit(self, version, nodes, call, reply):
+    def at_limit(self, version: int, nodes: typing.Sequence[str], call: str, reply: str) -> None:
         """A tree goes in as it is, and a call finds it there."""
+        assert self.row
         script = checkpoints.script("thread t", call, "schedule", "finish", version=version)
         entries = f"begin 1 0 {call}", "commit 1", f"return 1 {reply}"
         tree = checkpoints.text_of(*entries, "tree", "dir /", *nodes, "begun 1 committed 1 returned 1")
         wanted = Outcome(0, journal_of(version + 1, *nodes) + tree)
         self.ends(("run", "--from", in_file("-".join(self.row.split()), tree_of(*nodes))), script, wanted)
 
-    def test_at_each_limit(self):
+    def test_at_each_limit(self) -> None:
         """As many entries, as long a file, and more names on a branch than a path has."""
         rows = []
         for version, bytes_of_file, name in ((1, 65_536, 32), (2, 1_048_576, 64), (3, 1_048_577, 70)):
@@ -278,7 +281,7 @@ class Starts(harness.Case):
             ]
         self.each(rows, self.at_limit)
 
-    def test_verdicts(self):
+    def test_verdicts(self) -> None:
         """A journal is checked from the tree at which it starts."""
         rows = (
             ("a directory that is there", "mkdir /a", "failed EEXIST", b"lawful\n"),
@@ -287,18 +290,18 @@ class Starts(harness.Case):
         )
         self.each(((name, *rest) for name, *rest in rows), self.checked)
 
-    def checked(self, call, reply, wanted):
+    def checked(self, call: str, reply: str, wanted: bytes) -> None:
         given = journal_of(2, "dir /a") + checkpoints.text_of(f"begin 1 0 {call}", "commit 1", f"return 1 {reply}")
         came = run(given, "check")
         if harness.compares:
             self.same(given, (came.status, came.output), (int(wanted != b"lawful\n"), wanted))
 
-    def test_fault_of_the_script_first(self):
+    def test_fault_of_the_script_first(self) -> None:
         path, given = in_file("no tree", b"hello\n"), b"atomfs 1\nthread t\nmkdir /a/\nschedule\n"
         wanted = with_line(Outcome(3, b"", b"atomfs: line 3: BadPath TrailingSlash\n"), given)
         self.ends(("run", "--from", path), given, wanted)
 
-    def test_files_that_cannot_be_read(self):
+    def test_files_that_cannot_be_read(self) -> None:
         for path, why in (
             (f"{FOLDER.name}/missing", "no such file"),
             (FOLDER.name, "read failed"),
@@ -306,7 +309,7 @@ class Starts(harness.Case):
         ):
             self.ends(("run", "--from", path), ONE_CALL, Outcome(5, b"", f"atomfs: {path}: {why}\n".encode()))
 
-    def test_limits(self):
+    def test_limits(self) -> None:
         """As many nodes as there are numbers, one more, and texts that are too long."""
         takes_a_process()
         full = in_file("full", many(NODE_LIMIT))
@@ -327,7 +330,7 @@ class Starts(harness.Case):
         self.row = "a byte too many in a journal"
         self.refused(("run",), b"atomfs-journal 2\n".ljust(TEXT_LIMIT + 1, b"#"), ONE_CALL, "line 1: TooLarge")
 
-    def test_third_texts(self):
+    def test_third_texts(self) -> None:
         """A tree of more nodes, and texts that would be too long by the others; and one that is too long."""
         takes_a_process()
         second, third = (ONE_CALL.replace(b"atomfs 1", b"atomfs %d" % version) for version in (2, 3))
@@ -346,7 +349,7 @@ class Starts(harness.Case):
             self.ends(("run", "--from", path), third, with_line(wanted, head, is_tree=True))
 
 
-def run_of_one(*head, nodes=()):
+def run_of_one(*head: str, nodes: typing.Sequence[str] = ()) -> Outcome:
     """The outcome of the script of one call."""
     return Outcome(
         0,

@@ -4,13 +4,15 @@ tests/data/help has the help of the program and of its commands. A device that f
 only a run from a tree can tell, in tests/starts.py.
 """
 import hashlib
+import pathlib
 import re
 import resource
 import shlex
+import typing
 import unittest
 
 import harness
-from harness import DATA, ROOT, Case, Outcome, run, spawned, takes_a_process, with_line
+from harness import DATA, ROOT, Case, Outcome, match_in, run, spawned, takes_a_process, with_line
 
 HELP = DATA / "help"
 MEBIBYTE = 2**20
@@ -52,57 +54,57 @@ COMMANDS = (
     ("schedule", "--robin"),
 )
 # What `atomfs explain` knows. tests/documents.py looks at each.
-KINDS = re.search(r"possible values: (.*)\]", (HELP / "explain").read_text())[1].split(", ")
+KINDS = match_in(r"possible values: (.*)\]", (HELP / "explain").read_text())[1].split(", ")
 NOT_UTF_8 = Outcome(2, b"", b"atomfs: an argument is not UTF-8\n")
 
 
-def of(example, ending="script"):
+def of(example: pathlib.Path, ending: str = "script") -> bytes:
     return example.with_suffix(f".{ending}").read_bytes()
 
 
-def well(example, ending="text"):
+def well(example: pathlib.Path, ending: str = "text") -> Outcome:
     return Outcome(0, of(example, ending))
 
 
-def lawful(first, runs):
+def lawful(first: int, runs: int) -> Outcome:
     return Outcome(0, b"".join(b"seed %d lawful\n" % seed for seed in range(first, first + runs)))
 
 
-def malformed(fault):
+def malformed(fault: str) -> Outcome:
     return Outcome(3, b"", f"atomfs: {fault}\n".encode())
 
 
-def misused(what, usage=None):
+def misused(what: str, usage: str | None = None) -> Outcome:
     """The end of a command line that asks for nothing which the program does."""
     lines = [f"error: {what}", *([f"Usage: atomfs {usage}"] if usage else []), "For more information, try '--help'.\n"]
     return Outcome(2, b"", "\n\n".join(lines).encode())
 
 
-def unexpected(word, usage):
+def unexpected(word: str, usage: str | None) -> Outcome:
     """An option that a command which takes a file has not."""
     return misused(f"unexpected argument '{word}' found\n\n  tip: to pass '{word}' as a value, use '-- {word}'", usage)
 
 
-def unread(value, option, why):
+def unread(value: object, option: str, why: str) -> Outcome:
     return misused(f"invalid value '{value}' for '{option}': {why}")
 
 
-def no_kind(word, argument, tip=""):
+def no_kind(word: str, argument: str, tip: str = "") -> Outcome:
     return misused(f"invalid value '{word}' for '{argument}'\n  [possible values: {', '.join(KINDS)}]{tip}")
 
 
 class Words(Case):
     """The words of the command line."""
 
-    def ends(self, words, given, wanted):
+    def ends(self, words: tuple[str, ...], given: bytes, wanted: Outcome) -> None:
         shown = given.decode(errors="backslashreplace")
         self.same(f"atomfs {shlex.join(words)}\n{shown}", run(given, *words), with_line(wanted, given))
 
-    def all_end(self, rows):
+    def all_end(self, rows: typing.Iterable[tuple[str, str, bytes, Outcome]]) -> None:
         """Looks at rows of a name, words as a shell has them, an input, and the outcome."""
         self.each(((name, tuple(shlex.split(words)), *rest) for name, words, *rest in rows), self.ends)
 
-    def test_commands(self):
+    def test_commands(self) -> None:
         self.all_end(
             (words, words, given, wanted)
             for words, given, wanted in (
@@ -163,7 +165,7 @@ class Words(Case):
             )
         )
 
-    def test_calls_left(self):
+    def test_calls_left(self) -> None:
         """Only a run by the script's own schedule ends with any."""
         self.all_end(
             (
@@ -188,7 +190,7 @@ class Words(Case):
             )
         )
 
-    def test_faults_of_the_input(self):
+    def test_faults_of_the_input(self) -> None:
         self.all_end(
             (
                 (
@@ -259,10 +261,10 @@ class Words(Case):
             )
         )
 
-    def test_files(self):
+    def test_files(self) -> None:
         """Each command that reads takes the file behind it, and `-` is standard input; of a file that is not there nothing is printed."""
         files = {ending: str(HELPED.with_suffix(ending)) for ending in (".script", ".text")}
-        of_script = (
+        of_script: tuple[str, ...] = (
             "run",
             "run --seed 7",
             "seeds --seed 1 --runs 3",
@@ -283,7 +285,7 @@ class Words(Case):
             (words, ".text") for words in ("check", "check --json", "tree --at 1", "trace", "draw", "draw --html")
         ]
 
-        def alike(words, name):
+        def alike(words: tuple[str, ...], name: str) -> None:
             with open(name, "rb") as file:
                 wanted = run(file.read(), *words)
             self.same(f"{words} behind the words", run(b"", *words, name), wanted)
@@ -316,7 +318,7 @@ class Words(Case):
             )
         )
 
-    def test_lines_of_faults(self):
+    def test_lines_of_faults(self) -> None:
         """The message of a fault shows its line, and says what a text is whose first line is another than it has to be."""
         begun, long = b"atomfs 1\nthread t\n", b"x" * 100
         header, end = "line 1: BadHeader", "`atomfs explain BadHeader` says what to write instead"
@@ -434,7 +436,7 @@ class Words(Case):
             for name, words, given, told in rows
         )
 
-    def test_usage(self):
+    def test_usage(self) -> None:
         """The words are `clap`'s. Nothing is run, though the input is a script."""
         program, of_run, of_seeds, of_explain = (
             "<COMMAND>",
@@ -599,7 +601,7 @@ class Words(Case):
             )
         )
 
-    def test_help(self):
+    def test_help(self) -> None:
         rows = [(words, "atomfs") for words in ("help", "--help", "-h")]
         rows += [
             (words, name)
@@ -622,14 +624,14 @@ class Words(Case):
         ]
         self.all_end((words, words, b"", Outcome(0, (HELP / name).read_bytes())) for words, name in rows)
 
-    def pasted(self, line):
+    def pasted(self, line: str) -> tuple[str, bytes]:
         """The words and the input of an example: `WORDS FILE`, up to a pipe or `> FILE`, `printf TEXT | WORDS`, or words without a file."""
         first, *behind = line.strip().split(" > ")[0].split(" | ")
         if first.startswith("printf "):
             return behind[0], shlex.split(first)[1].replace("\\n", "\n").encode()
         return first.replace(" examples/", f" {ROOT}/examples/"), b""
 
-    def do_the_example(self, name):
+    def do_the_example(self, name: str) -> None:
         """The last line of a help is done."""
         line = (HELP / name).read_text().splitlines()[-1]
         words, given = self.pasted(line)
@@ -637,20 +639,20 @@ class Words(Case):
         # A search tells the seed that it found.
         self.same(line, (came.status, re.sub(rb"^atomfs: (seed \d+|calls .*)\n$", b"", came.message)), (0, b""))
 
-    def test_examples_of_the_help(self):
+    def test_examples_of_the_help(self) -> None:
         self.each(((path.name, path.name) for path in sorted(HELP.iterdir())), self.do_the_example)
 
 
 class Process(Case):
     """What takes a process of its own: arguments that are no text, too little memory, and messages that nobody takes."""
 
-    def setUp(self):
+    def setUp(self) -> None:
         takes_a_process()
 
-    def ends(self, words, given, wanted, **other):
+    def ends(self, words: typing.Sequence[str], given: bytes, wanted: Outcome, **other: typing.Any) -> None:
         self.same(f"atomfs {words}", spawned(words, given, **other), wanted)
 
-    def test_arguments_that_are_not_utf_8(self):
+    def test_arguments_that_are_not_utf_8(self) -> None:
         self.each(
             (
                 ("the command", (b"\xff",), of(ONE_CALL), NOT_UTF_8),
@@ -660,7 +662,7 @@ class Process(Case):
             self.ends,
         )
 
-    def starve(self, words):
+    def starve(self, words: tuple[str, ...]) -> None:
         """A text as long as may be, in no more memory than it has bytes."""
         header = b"atomfs-journal 1\n" if words == ("check",) else EMPTY
         confine = lambda: resource.setrlimit(resource.RLIMIT_AS, (16 * MEBIBYTE, 16 * MEBIBYTE))
@@ -668,24 +670,24 @@ class Process(Case):
             words, header.ljust(16 * MEBIBYTE, b"#"), Outcome(4, b"", b"atomfs: out of memory\n"), preexec_fn=confine
         )
 
-    def test_out_of_memory(self):
+    def test_out_of_memory(self) -> None:
         self.each(((" ".join(words), words) for words in COMMANDS), self.starve)
 
-    def test_no_worker(self):
+    def test_no_worker(self) -> None:
         """A thread's stack takes more memory than there is."""
 
-        def confine():
+        def confine() -> None:
             resource.setrlimit(resource.RLIMIT_STACK, (64 * MEBIBYTE, resource.getrlimit(resource.RLIMIT_STACK)[1]))
             resource.setrlimit(resource.RLIMIT_AS, (48 * MEBIBYTE, 48 * MEBIBYTE))
 
         self.ends(("threads",), of(ONE_CALL), Outcome(4, b"", b"atomfs: no worker\n"), preexec_fn=confine)
         self.ends(("run",), of(ONE_CALL), well(ONE_CALL), preexec_fn=confine)
 
-    def unheard(self, words, given, status):
+    def unheard(self, words: tuple[str, ...], given: bytes, status: int) -> None:
         with open("/dev/full", "wb") as full:
             self.ends(words, given, Outcome(status), stdout=full, stderr=full)
 
-    def test_messages_that_nobody_takes(self):
+    def test_messages_that_nobody_takes(self) -> None:
         """The status says it all the same, and a write that failed before all else."""
         self.each(
             (

@@ -16,6 +16,7 @@ The program has to give each of these answers, and so has tests/grammar.py. The 
 import os
 import random
 import re
+import typing
 import unittest
 
 import grammar
@@ -24,9 +25,15 @@ import harness
 from harness import DATA, Case, Outcome, atomfs, library, run, with_line
 from worked import RUNS, examples
 
+# A text, what is asked of it, and the lines of the answer.
+Question = tuple[bytes, str, list[str]]
+# The kind of an entry's fault, and what the entry disagrees with; or none.
+Wrong = tuple[str, str] | None
+# How a text is drawn.
+Drawing = typing.Callable[[random.Random], bytes]
 # How often each worked journal is changed.
 DRAWN_EACH = 12
-READERS = {"script": grammar.Script, "journal": grammar.journal}
+READERS: dict[str, typing.Callable[[bytes], typing.Any]] = {"script": grammar.Script, "journal": grammar.journal}
 COMMANDS = {
     "script": (
         ("run",),
@@ -68,11 +75,11 @@ KINDS = {
 }
 
 
-def text_of(*lines):
+def text_of(*lines: str) -> bytes:
     return "".join(f"{line}\n" for line in lines).encode()
 
 
-def repeated(line):
+def repeated(line: str) -> bytes:
     """So many copies of what stands in a line of a row."""
     count, _, copied = line[1:].partition(" ")
     if line.startswith("+"):
@@ -80,19 +87,19 @@ def repeated(line):
     return text_of(*(copied.replace("#", str(place)) for place in range(int(count))))
 
 
-def of_word(word, answer):
+def of_word(word: str, answer: list[str]) -> Question:
     """The row of a word in a call."""
     answer = [f"line 3: {answer[0]}"] if answer[0].startswith("Bad") else [f"0 stat {answer[0]}", "finish"]
     return text_of("atomfs 1", "thread t", f"stat {word}", "schedule", "finish"), "script", answer
 
 
-def of_long_word(count, word, answer):
+def of_long_word(count: str, word: str, answer: list[str]) -> Question:
     """The row of so many times /n and a word, in a call."""
     word = "/n" * int(count) + word
     return of_word(word, [word] if answer == ["as it stands"] else answer)
 
 
-def of_name(word, answer):
+def of_name(word: str, answer: list[str]) -> Question:
     """The row of a word in a reply: in that of a directory with an entry of this name."""
     if answer[0].startswith("Bad"):
         return text_of("atomfs-journal 1", f"return 1 names {word}"), "journal", [f"line 2: {answer[0]}"]
@@ -104,7 +111,7 @@ def of_name(word, answer):
     )
 
 
-def row(text, ask, answer):
+def row(text: bytes, ask: str, answer: list[str]) -> Question:
     """A row, with its text where that is made from a word."""
     kind, _, word = ask.partition(" ")
     match kind:
@@ -118,9 +125,10 @@ def row(text, ask, answer):
     return text, ask, answer
 
 
-def asked(file):
+def asked(file: str) -> list[tuple[str, bytes, str, list[str]]]:
     """What is asked in a file: of each its name, the text so far, the question, and the lines of the answer."""
-    questions, text = [], b""
+    questions: list[tuple[str, bytes, str, list[str]]] = []
+    text = b""
     for line in (DATA / "texts" / file).read_text().split("\n"):
         match line[:1]:
             case "":
@@ -139,11 +147,11 @@ def asked(file):
     return questions
 
 
-def rows(file):
-    return [(name, *row(*question)) for name, *question in asked(file)]
+def rows(file: str) -> list[tuple[str, bytes, str, list[str]]]:
+    return [(name, *row(text, ask, answer)) for name, text, ask, answer in asked(file)]
 
 
-def attempted(kind, text):
+def attempted(kind: str, text: bytes) -> typing.Any:
     """What a text says as a script or a journal by the grammar, or the fault."""
     try:
         return READERS[kind](text)
@@ -151,23 +159,23 @@ def attempted(kind, text):
         return fault
 
 
-def told(kind, text):
+def told(kind: str, text: bytes) -> typing.Any:
     """What the library answers to a script or a journal: a text, or a status and a line."""
     return harness.told({"script": library().run, "journal": library().check}[kind], text)
 
 
-def status_of(fault):
+def status_of(fault: grammar.Fault) -> tuple[object, int | None]:
     """The status and the line by which the library tells a fault."""
     name = re.sub("(?<=[a-z])(?=[A-Z])", "_", fault.kind.split(" ")[0])
     return atomfs.Status[name.upper()], fault.line
 
 
-def outcome_of(fault, text):
+def outcome_of(fault: object, text: bytes) -> Outcome:
     """The outcome by which the program tells a fault of a text, whose line it shows."""
     return with_line(Outcome(3, b"", f"atomfs: {fault}\n".encode()), text)
 
 
-def written(text):
+def written(text: bytes) -> bytes:
     """The journal again: what stands before its entries, and these in canonical form."""
     _, behind = grammar.start(text)
     return b"".join(line + b"\n" for line in text.split(b"\n")[:behind]) + text_of(*grammar.journal(text))
@@ -177,15 +185,20 @@ class History:
     """The entries of a journal so far, by the table of verdicts of docs/SPECIFICATION.md: an entry answers the kind of its fault and what it disagrees with, or
     None. `told` has the words of the entry at a place."""
 
-    def __init__(self, start, version, told):
-        self.tree, self.calls, self.due, self.last, self.told = model.Tree.of(start, version), {}, {}, {}, told
-        self.begun, self.committed, self.returned = {}, {}, {}
+    def __init__(self, start: dict[typing.Any, bytes | None], version: int, told: typing.Callable[[int], str]) -> None:
+        self.tree, self.told = model.Tree.of(start, version), told
+        self.calls: dict[str, tuple[str, ...]] = {}
+        self.due: dict[str, str] = {}
+        self.last: dict[str, str] = {}
+        self.begun: dict[str, int] = {}
+        self.committed: dict[str, int] = {}
+        self.returned: dict[str, int] = {}
 
-    def who(self, number):
+    def who(self, number: str) -> str:
         seat, *words = self.calls.get(number, ("",))
         return f"; call {number} is {cut(' '.join(words))} on seat {seat}" if words else f"; no call {number} has begun"
 
-    def begin(self, place, number, seat, *words):
+    def begin(self, place: int, number: str, seat: str, *words: str) -> Wrong:
         if number in self.calls:
             return "BeginTwice", f"; call {number} began before, at {self.told(self.begun[number])}"
         if seat in self.last and self.last[seat] not in self.returned:
@@ -194,15 +207,17 @@ class History:
                 f"; seat {seat} has a call that has not returned, begun at {self.told(self.begun[self.last[seat]])}",
             )
         self.calls[number], self.last[seat], self.begun[number] = (seat, *words), number, place
+        return None
 
-    def commit(self, place, number):
+    def commit(self, place: int, number: str) -> Wrong:
         if number not in self.calls:
             return "CommitUnbegun", self.who(number)
         if number in self.due:
             return "CommitTwice", f"{self.who(number)}; it committed before, at {self.told(self.committed[number])}"
         self.due[number], self.committed[number] = self.tree.apply(self.calls[number][1:]), place
+        return None
 
-    def returns(self, place, number, *reply):
+    def returns(self, place: int, number: str, *reply: str) -> Wrong:
         if number not in self.due:
             return "ReturnUncommitted", self.who(number) + "; it has not committed" * (number in self.calls)
         if number in self.returned:
@@ -210,14 +225,15 @@ class History:
         if self.due[number] != " ".join(reply):
             return "WrongReply", f"{self.who(number)}; due: {cut(self.due[number])}"
         self.returned[number] = place
+        return None
 
 
-def cut(words):
+def cut(words: str) -> str:
     """Words in a message: of more than so many bytes the rest is left out."""
     return f"{words[:240]}.." if len(words) > 240 else words
 
 
-def checked(text):
+def checked(text: bytes) -> tuple[str, bytes]:
     """What `atomfs check` makes of a journal, by the model: the line of the verdict, and the message."""
     entries, (start, behind) = grammar.journal(text), grammar.start(text)
     numbers = [
@@ -225,9 +241,13 @@ def checked(text):
         for number, line in enumerate(text.split(b"\n"), 1)
         if number > behind and line and not line.startswith(b"#")
     ]
-    told = lambda place: f"line {numbers[place - 1]}: {cut(entries[place - 1])}"
+    told: typing.Callable[[int], str] = lambda place: f"line {numbers[place - 1]}: {cut(entries[place - 1])}"
     history = History(start, model.VERSIONS[text.split(b"\n")[0].decode()], told)
-    take = {"begin": history.begin, "commit": history.commit, "return": history.returns}
+    take: dict[str, typing.Callable[..., Wrong]] = {
+        "begin": history.begin,
+        "commit": history.commit,
+        "return": history.returns,
+    }
     for place, entry in enumerate(entries, 1):
         kind, *words = entry.split(" ")
         if fault := take[kind](place, *words):
@@ -235,7 +255,7 @@ def checked(text):
     return "lawful", b""
 
 
-def verdict(text):
+def verdict(text: bytes) -> str:
     """The line of the verdict on a journal, by the model."""
     return checked(text)[0]
 
@@ -243,28 +263,32 @@ def verdict(text):
 class Rows:
     """The rows, whose answers are looked at in one way."""
 
-    def test_scripts(self):
+    # Those of the tests that take these rows.
+    each: typing.Callable[..., None]
+    look_at_fault: typing.Callable[..., None]
+
+    def test_scripts(self) -> None:
         self.each(rows("scripts"), self.look)
 
-    def test_journals(self):
+    def test_journals(self) -> None:
         self.each(rows("journals"), self.look)
 
-    def test_starts(self):
+    def test_starts(self) -> None:
         self.each(rows("starts"), self.look)
 
-    def test_versions(self):
+    def test_versions(self) -> None:
         self.each(rows("versions"), self.look)
 
-    def test_listing(self):
+    def test_listing(self) -> None:
         self.each(rows("listing"), self.look)
 
-    def test_lines(self):
+    def test_lines(self) -> None:
         self.each(rows("lines"), self.look)
 
-    def test_paths(self):
+    def test_paths(self) -> None:
         self.each(rows("paths"), self.look)
 
-    def look(self, text, ask, answer):
+    def look(self, text: bytes, ask: str, answer: list[str]) -> None:
         kind, *more = ask.split(" ")
         if answer[0].startswith("line "):
             self.look_at_fault(text, kind, answer[0])
@@ -275,58 +299,58 @@ class Rows:
 class OfTheGrammar(Rows, Case):
     """What tests/grammar.py says of each row."""
 
-    def look_at_fault(self, text, kind, fault):
+    def look_at_fault(self, text: bytes, kind: str, fault: str) -> None:
         self.same(text, str(attempted(kind, text)), fault)
 
-    def look_at_script(self, text, answer):
+    def look_at_script(self, text: bytes, answer: list[str]) -> None:
         script = grammar.Script(text)
         seats = {thread: seat for seat, thread in enumerate(script.calls)}
         calls = [f"{seats[thread]} {call}" for thread, calls in script.calls.items() for call in calls]
         words = [f"{seats[thread]}*{times}" if thread in seats else thread for thread, times in script.events] + [
-            "finish"
+            "!drawn" if script.is_drawn else "finish"
         ] * script.finishes
         self.same(text, calls + words or ["no call, no word"], answer)
 
-    def look_at_counts(self, text, answer):
+    def look_at_counts(self, text: bytes, answer: list[str]) -> None:
         script = grammar.Script(text)
         calls = sum(map(len, script.calls.values()))
         self.same(text, f"{len(script.calls)} threads, {calls} calls, {len(script.events)} words", answer[0])
 
-    def look_at_seat(self, text, answer, thread):
+    def look_at_seat(self, text: bytes, answer: list[str], thread: str) -> None:
         threads = list(grammar.Script(text).calls)
         self.same(text, str(threads.index(thread)) if thread in threads else "none", answer[0])
 
-    def look_at_journal(self, text, answer):
+    def look_at_journal(self, text: bytes, answer: list[str]) -> None:
         count = re.fullmatch(r"as its first (\d+) lines", answer[0])
         wanted = b"".join(text.splitlines(keepends=True)[: int(count[1]) if count else None])
         self.same(text, written(text), wanted)
 
-    def look_at_verdict(self, text, answer):
+    def look_at_verdict(self, text: bytes, answer: list[str]) -> None:
         self.same(text, verdict(text), answer[0])
 
 
 class OfTheProgram(Rows, Case):
     """What the program says of each row."""
 
-    def look_at_fault(self, text, kind, fault):
+    def look_at_fault(self, text: bytes, kind: str, fault: str) -> None:
         for words in COMMANDS[kind]:
             self.same(text, run(text, *words), outcome_of(fault, text))
 
-    def look_at_script(self, text, answer):
+    def look_at_script(self, text: bytes, answer: list[str]) -> None:
         """Rounds to the end begin its calls, and it runs as the script that is written from its calls and its events."""
         calls = [line for line in answer if re.match(r"\d+ ", line)]
         begun = model.begun(run(text, "run", "--robin").output.decode())
         self.same(text, [f"{seat} {call}" for seat in sorted(begun) for call in begun[seat]], calls)
         self.look_at_counts(text, [f"{len(calls)} calls"])
 
-    def look_at_counts(self, text, answer):
+    def look_at_counts(self, text: bytes, answer: list[str]) -> None:
         """Rounds to the end make so many calls, and it runs as the script that is written from its calls and its events."""
-        calls = re.search(r"(\d+) calls", answer[0])[1]
+        calls = harness.match_in(r"(\d+) calls", answer[0])[1]
         last = run(text, "run", "--robin").output.decode().splitlines()[-1:]
         self.same(text, last, [f"begun {calls} committed {calls} returned {calls}"])
         self.same(text, run(text, "run"), run(grammar.Script(text).text(), "run"))
 
-    def look_at_seat(self, text, answer, thread):
+    def look_at_seat(self, text: bytes, answer: list[str], thread: str) -> None:
         """The thread gets a call, and an event that begins it."""
         given = text.replace(text_of(f"thread {thread}"), text_of(f"thread {thread}", "stat /")) + text_of(thread)
         came = run(given, "run")
@@ -335,13 +359,13 @@ class OfTheProgram(Rows, Case):
         else:
             self.same(given, model.begun(came.output.decode()), {int(answer[0]): ["stat /"]})
 
-    def look_at_journal(self, text, _):
+    def look_at_journal(self, text: bytes, _: list[str]) -> None:
         """Its verdict is that of the journal that is written from its entries."""
         came, again = run(text, "check"), run(written(text), "check")
         self.same(text, came[:2], again[:2])
         self.same(text, came.message, checked(text)[1])
 
-    def look_at_verdict(self, text, answer):
+    def look_at_verdict(self, text: bytes, answer: list[str]) -> None:
         self.same(text, run(text, "check"), Outcome(int(answer != ["lawful"]), text_of(answer[0]), checked(text)[1]))
 
 
@@ -350,7 +374,7 @@ class Unlawful(Case):
 
     OTHERS = "ok", "failed ENOENT", "names q", "bytes 00", "wrote 3"
 
-    def changed(self, draw, journal):
+    def changed(self, draw: random.Random, journal: bytes) -> bytes:
         lines = journal.split(b"\ntree\n", 1)[0].decode("latin-1").split("\n")
         behind = lines.index("entries") + 1 if "entries" in lines else 1
         head, entries = lines[:behind], lines[behind:]
@@ -369,11 +393,11 @@ class Unlawful(Case):
                     entries.insert(one, draw.choice(("# no entry", "")))
         return "".join(f"{line}\n" for line in (*head, *entries)).encode("latin-1")
 
-    def look(self, text):
+    def look(self, text: bytes) -> None:
         line, told = checked(text)
         self.same(text, run(text, "check"), Outcome(int(line != "lawful"), text_of(line), told))
 
-    def test_drawn(self):
+    def test_drawn(self) -> None:
         journals = [
             (path.name, text)
             for path, text in examples(RUNS, "text")
@@ -389,7 +413,7 @@ class Unlawful(Case):
         self.same("the kinds that come", sorted(kinds), sorted(KINDS["verdict"]))
 
 
-def starting(version, *nodes):
+def starting(version: int, *nodes: str) -> bytes:
     """A journal without entries that starts at the tree of these nodes behind the root."""
     return text_of(f"atomfs-journal {version}", "start", "dir /", *nodes, "entries")
 
@@ -412,7 +436,7 @@ class Starts(Case):
     }
 
     @staticmethod
-    def lengths(name, content):
+    def lengths(name: int, content: int | None) -> dict[str, list[str]]:
         """Nodes with a name, or with bytes, of this length."""
         files = {f"a file of {content} bytes": ["file /f " + "00" * content]} if content else {}
         return {
@@ -421,30 +445,33 @@ class Starts(Case):
             **files,
         }
 
-    def of_each_version(self, nodes, more):
+    def of_each_version(self, nodes: dict[str, list[str]], more: int) -> typing.Iterator[tuple[str, bytes, int]]:
         """Journals of each version that start at these nodes, and at some whose lengths are the greatest and so many more."""
         for version, greatest in self.LENGTHS.items():
-            for name, lines in {**nodes, **self.lengths(*(length and length + more for length in greatest))}.items():
+            for name, lines in {
+                **nodes,
+                **self.lengths(greatest[0] + more, greatest[1] and greatest[1] + more),
+            }.items():
                 yield f"{name}, version {version}", starting(version, *lines), 3 + len(lines)
 
-    def test_within(self):
+    def test_within(self) -> None:
         self.each(((name, text) for name, text, _ in self.of_each_version(self.ROWS, 0)), self.look)
 
-    def look(self, text):
+    def look(self, text: bytes) -> None:
         self.same(text, verdict(text), "lawful")
         self.same(text, run(text, "check"), Outcome(0, b"lawful\n"))
 
-    def test_past(self):
+    def test_past(self) -> None:
         """By the third limits a directory has more entries than there are here."""
         self.each(
             (row for row in self.of_each_version(self.PAST, 1) if not re.fullmatch("257 .*, version 4", row[0])),
             self.look_past,
         )
 
-    def test_within_the_third_limits(self):
+    def test_within_the_third_limits(self) -> None:
         self.each(((name, starting(4, *lines)) for name, lines in self.PAST.items()), self.look)
 
-    def look_past(self, text, line):
+    def look_past(self, text: bytes, line: int) -> None:
         fault = attempted("journal", text)
         self.same(text, str(fault), f"line {line}: BadStart")
         self.same(text, run(text, "check"), outcome_of(fault, text))
@@ -527,20 +554,22 @@ WORDS = (
 BYTES = b" \n/%#*-0159af.tr\r\t\0\xFF"
 
 
-def filled(draw, pattern):
+def filled(draw: random.Random, pattern: str) -> str:
     return re.sub(r"\b[PNCHET]\b", lambda letter: draw.choice(WORDS_OF[letter[0]]), pattern)
 
 
-def some(draw, patterns, most):
+def some(draw: random.Random, patterns: typing.Sequence[str], most: int) -> list[str]:
     """Lines, each from one of the patterns."""
     return [filled(draw, draw.choice(patterns)) for _ in range(draw.randrange(most))]
 
 
-def blocks(draw, calls=CALLS):
+def blocks(draw: random.Random, calls: typing.Sequence[str] = CALLS) -> list[str]:
     return [line for thread in WORDS_OF["T"] for line in (f"thread {thread}", *some(draw, calls, 6))]
 
 
-def drawn_script(draw, headers=SCRIPTS, calls=CALLS):
+def drawn_script(
+    draw: random.Random, headers: typing.Sequence[str] = SCRIPTS, calls: typing.Sequence[str] = CALLS
+) -> bytes:
     return text_of(
         draw.choice(headers),
         *blocks(draw, calls),
@@ -550,7 +579,12 @@ def drawn_script(draw, headers=SCRIPTS, calls=CALLS):
     )
 
 
-def drawn_journal(draw, headers=JOURNALS, calls=CALLS, replies=REPLIES):
+def drawn_journal(
+    draw: random.Random,
+    headers: typing.Sequence[str] = JOURNALS,
+    calls: typing.Sequence[str] = CALLS,
+    replies: typing.Sequence[str] = REPLIES,
+) -> bytes:
     entries = "commit N", *(f"begin N N {call}" for call in calls), *(f"return N {reply}" for reply in replies)
     weights = 99, *[9] * len(calls), *[11] * len(replies)
     return text_of(
@@ -558,47 +592,49 @@ def drawn_journal(draw, headers=JOURNALS, calls=CALLS, replies=REPLIES):
     )
 
 
-def drawn_run(draw, headers=SCRIPTS, calls=CALLS):
+def drawn_run(
+    draw: random.Random, headers: typing.Sequence[str] = SCRIPTS, calls: typing.Sequence[str] = CALLS
+) -> bytes:
     """The text of a run of a drawn script."""
     return library().run(text_of(draw.choice(headers), *blocks(draw, calls), "schedule", "finish"))
 
 
-def third_script(draw):
+def third_script(draw: random.Random) -> bytes:
     """A script of the third version, which may list directories in pieces."""
     return drawn_script(draw, ("atomfs 3",), (*CALLS, *LISTING))
 
 
-def third_journal(draw):
+def third_journal(draw: random.Random) -> bytes:
     return drawn_journal(draw, (THIRD_JOURNAL,), (*CALLS, *LISTING), (*REPLIES, *OVERFLOWS))
 
 
-def third_run(draw):
+def third_run(draw: random.Random) -> bytes:
     return drawn_run(draw, ("atomfs 3",), (*CALLS, *LISTING))
 
 
-def drawn_lines(draw):
+def drawn_lines(draw: random.Random) -> bytes:
     """Lines of words behind a beginning."""
     lines = (" ".join(draw.choices(WORDS, k=draw.randrange(1, 5))) for _ in range(draw.randrange(4)))
     return draw.choice(BEGINNINGS).encode() + text_of(*lines)
 
 
-def drawn_byte(draw):
+def drawn_byte(draw: random.Random) -> bytes:
     """One of the bytes that texts are made of, or any."""
     return bytes([draw.choice((draw.choice(BYTES), draw.randrange(256)))])
 
 
-def drawn_bytes(draw):
+def drawn_bytes(draw: random.Random) -> bytes:
     return draw.choice(BEGINNINGS).encode() + b"".join(drawn_byte(draw) for _ in range(draw.randrange(40)))
 
 
-def byte_changed(draw, text):
+def byte_changed(draw: random.Random, text: bytes) -> bytes:
     """The text with another byte, without a byte, or with a byte twice."""
     at = draw.randrange(len(text))
     front, byte, back = text[:at], text[at : at + 1], text[at + 1 :]
     return front + draw.choice((drawn_byte(draw), b"", byte + byte)) + back
 
 
-def lines_exchanged(draw, text):
+def lines_exchanged(draw: random.Random, text: bytes) -> bytes:
     """The text with two of its lines behind the first exchanged."""
     lines = text.split(b"\n")
     one, other = (draw.randrange(min(1, len(lines) - 1), len(lines)) for _ in range(2))
@@ -606,13 +642,13 @@ def lines_exchanged(draw, text):
     return b"\n".join(lines)
 
 
-def line_doubled(draw, text):
+def line_doubled(draw: random.Random, text: bytes) -> bytes:
     lines = text.split(b"\n")
     lines.insert(draw.randrange(len(lines)), draw.choice(lines))
     return b"\n".join(lines)
 
 
-def word_changed(draw, text):
+def word_changed(draw: random.Random, text: bytes) -> bytes:
     pieces = re.split(rb"([ \n])", text)
     pieces[draw.randrange(0, len(pieces), 2)] = draw.choice(WORDS).encode()
     return b"".join(pieces)
@@ -621,10 +657,10 @@ def word_changed(draw, text):
 CHANGES = *[byte_changed] * 3, *[word_changed] * 2, lines_exchanged, line_doubled
 
 
-def changed(drawn):
+def changed(drawn: Drawing) -> Drawing:
     """The same texts with one or two changes."""
 
-    def text(draw):
+    def text(draw: random.Random) -> bytes:
         given = drawn(draw)
         for _ in range(draw.choice((1, 2))):
             given = draw.choice(CHANGES)(draw, given)
@@ -634,7 +670,7 @@ def changed(drawn):
 
 
 # In each way: how a text is drawn, how many are, and what each of them has to be.
-WAYS = {
+WAYS: dict[str, tuple[Drawing, int, str | None]] = {
     "script": (drawn_script, 1_000, "script"),
     "changed script": (changed(drawn_script), 6_000, None),
     "journal": (drawn_journal, 1_000, "journal"),
@@ -649,7 +685,7 @@ WAYS = {
 }
 
 
-def drawn_texts():
+def drawn_texts() -> typing.Iterator[tuple[str, bytes, str | None]]:
     """All texts by their names, each drawn from its name alone, and what it has to be."""
     for way, (drawn, count, kind) in WAYS.items():
         for number in range(1, count + 1):
@@ -659,26 +695,26 @@ def drawn_texts():
 class OfTheLibrary(Case):
     """What the library says of the texts of all rows, and of drawn ones: valid ones, changed ones, lines of the grammar's words, and bytes."""
 
-    def setUp(self):
+    def setUp(self) -> None:
         library()
-        self.came = set()
+        self.came: set[tuple[str, str]] = set()
 
-    def test_rows(self):
+    def test_rows(self) -> None:
         rows_of = {file: rows(file) for file in ("scripts", "journals", "lines", "paths", "versions", "listing")}
         self.each(((f"{file}: {name}", text) for file, rows in rows_of.items() for name, text, _, _ in rows), self.look)
 
-    def test_drawn_texts(self):
+    def test_drawn_texts(self) -> None:
         """The program tells of each kind of fault too, of the first text that has it. Each kind comes."""
         self.each(drawn_texts(), self.look_at_drawn)
         if "ROW" not in os.environ:
             wanted = {(kind, came) for kind, kinds in KINDS.items() for came in kinds}
             self.same("all drawn texts: the kinds that did not come", sorted(wanted - self.came), [])
 
-    def look_at_drawn(self, text, kind):
+    def look_at_drawn(self, text: bytes, kind: str | None) -> None:
         for reader in self.look(text):
             self.assertNotEqual(reader, kind, "a valid text is refused")
 
-    def look(self, text):
+    def look(self, text: bytes) -> dict[str, grammar.Fault]:
         """Looks at a text as a script and as a journal. Answers which of them it is not."""
         said = {kind: attempted(kind, text) for kind in READERS}
         faults = {kind: fault for kind, fault in said.items() if isinstance(fault, grammar.Fault)}
@@ -690,13 +726,13 @@ class OfTheLibrary(Case):
             self.look_at_journal(text)
         return faults
 
-    def look_at_fault(self, text, kind, fault):
+    def look_at_fault(self, text: bytes, kind: str, fault: grammar.Fault) -> None:
         self.same(text, told(kind, text), status_of(fault))
         if (kind, fault.kind) not in self.came:
             self.came.add((kind, fault.kind))
             self.same(text, run(text, *COMMANDS[kind][0]), outcome_of(fault, text))
 
-    def look_at_script(self, text, script):
+    def look_at_script(self, text: bytes, script: grammar.Script) -> None:
         """It begins calls of the script, and all where rounds follow. It runs as the script that is written from its calls and its events."""
         came = told("script", text)
         self.same(text, came, told("script", script.text()))
@@ -709,7 +745,7 @@ class OfTheLibrary(Case):
         self.same(text, told("journal", came), b"lawful\n")
         self.same(text, verdict(came), "lawful")
 
-    def look_at_journal(self, text):
+    def look_at_journal(self, text: bytes) -> None:
         """Its verdict is that of the model, and that of the journal that is written from its entries."""
         wanted = verdict(text)
         self.came.add(("verdict", wanted.split(" ")[-1]))

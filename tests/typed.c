@@ -547,6 +547,22 @@ static void tools(void) {
     IS(count, 2);
     IS(atomfs_draw(PATH(early), ATOMFS_GIVEN, 0, ATOMFS_WHOLE, out, sizeof out, &count), ATOMFS_UNDER_WAY);
     IS(count, 1);
+    /* A page is larger than `out`; how large does not depend on the room. */
+    IS(atomfs_page(PATH(script), ATOMFS_SEEDED, 7, out, sizeof out, &count), ATOMFS_TOO_SMALL);
+    length = count;
+    IS(atomfs_page(PATH(script), ATOMFS_SEEDED, 7, NULL, 0, &count), ATOMFS_TOO_SMALL);
+    IS(count, length);
+    char *page = (char *)malloc(length);
+    IS(page != NULL, 1);
+    IS(atomfs_page(PATH(script), ATOMFS_SEEDED, 7, page, length, &count), ATOMFS_OK);
+    SAYS(page, (size_t)15, "<!DOCTYPE html>");
+    SAYS(page + length - 8, (size_t)8, "</html>\n");
+    free(page);
+    IS(atomfs_page(PATH(script), none, 0, out, sizeof out, &count), ATOMFS_BAD_CHOICE);
+    IS(atomfs_page(PATH(journal), ATOMFS_GIVEN, 0, out, sizeof out, &count), ATOMFS_BAD_LINE);
+    IS(count, 2);
+    IS(atomfs_page(PATH(early), ATOMFS_GIVEN, 0, out, sizeof out, &count), ATOMFS_UNDER_WAY);
+    IS(count, 1);
     IS(atomfs_schedule(PATH(script), ATOMFS_ROUND_ROBIN, 0, out, sizeof out, &count), ATOMFS_OK);
     SAYS(out, count, "atomfs 1\nthread t\nmkdir /a\nschedule\nt*5\n");
     IS(atomfs_schedule(PATH(script), ATOMFS_GIVEN, 0, out, count - 1, &count), ATOMFS_TOO_SMALL);
@@ -711,6 +727,8 @@ static void nulls(void) {
     IS(atomfs_trace(NULL, 0, ATOMFS_GIVEN, 0, 0, NULL, 0, &count), ATOMFS_BAD_HEADER);
     IS(atomfs_draw(NULL, 1, ATOMFS_GIVEN, 0, ATOMFS_WHOLE, out, sizeof out, &count), ATOMFS_NULL);
     IS(atomfs_draw("", 0, ATOMFS_GIVEN, 0, ATOMFS_WHOLE, out, sizeof out, NULL), ATOMFS_NULL);
+    IS(atomfs_page(NULL, 1, ATOMFS_GIVEN, 0, out, sizeof out, &count), ATOMFS_NULL);
+    IS(atomfs_page("", 0, ATOMFS_GIVEN, 0, out, sizeof out, NULL), ATOMFS_NULL);
     IS(atomfs_schedule(NULL, 1, ATOMFS_GIVEN, 0, out, sizeof out, &count), ATOMFS_NULL);
     IS(atomfs_schedule("", 0, ATOMFS_GIVEN, 0, out, sizeof out, NULL), ATOMFS_NULL);
     IS(atomfs_seeds(NULL, 1, 0, 1, out, sizeof out, &count), ATOMFS_NULL);
@@ -731,6 +749,7 @@ static void nulls(void) {
     IS(atomfs_check("", bad, out, sizeof out, &count), ATOMFS_BAD_LENGTH);
     IS(atomfs_trace("", bad, ATOMFS_GIVEN, 0, 0, out, sizeof out, &count), ATOMFS_BAD_LENGTH);
     IS(atomfs_draw("", 0, ATOMFS_GIVEN, 0, ATOMFS_WHOLE, out, bad, &count), ATOMFS_BAD_LENGTH);
+    IS(atomfs_page("", 0, ATOMFS_GIVEN, 0, out, bad, &count), ATOMFS_BAD_LENGTH);
     IS(atomfs_check_path("/", bad, ATOMFS_V1), ATOMFS_BAD_LENGTH);
     IS(atomfs_journal(&fs, 0, NULL, 0, &count, &entries), ATOMFS_OK);
     IS(entries, 0);

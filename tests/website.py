@@ -1,4 +1,5 @@
 """The folder of pages that docs/build makes: it has each page, and each link leads somewhere."""
+import importlib
 import importlib.util
 import os
 import pathlib
@@ -6,22 +7,23 @@ import re
 import subprocess
 import sys
 import tempfile
+import typing
 import unittest
 
 import harness
 from documents import PAGES
-from harness import ROOT, Case
+from harness import ROOT, Case, match_in
 from promised import promises
 
 sys.path.insert(0, str(ROOT / "docs" / "site"))
-import site_links
+site_links: typing.Any = importlib.import_module("site_links")
 
 BUILD = ROOT / "docs" / "build"
 # The other Python that docs/build takes, where this one has no markdown.
 SYSTEM = "/usr/bin/python3"
 
 
-def has_markdown():
+def has_markdown() -> bool:
     """Whether docs/build finds the module markdown."""
     if importlib.util.find_spec("markdown"):
         return True
@@ -32,7 +34,7 @@ def has_markdown():
 class Links(Case):
     """What is found to lead nowhere."""
 
-    def test_lost(self):
+    def test_lost(self) -> None:
         with tempfile.TemporaryDirectory(prefix="atomfs-") as folder:
             here = pathlib.Path(folder)
             (here / "api" / "c").mkdir(parents=True)
@@ -47,7 +49,7 @@ class Links(Case):
 class Site(Case):
     """The pages and the promises. References of other languages need tools that tests of pages do not."""
 
-    def setUp(self):
+    def setUp(self) -> None:
         if not has_markdown():
             self.skipTest("there is no module markdown: apt-get install python3-markdown")
         folder = tempfile.TemporaryDirectory(prefix="atomfs-")
@@ -56,7 +58,7 @@ class Site(Case):
         words = [str(BUILD), "--pages-only", str(self.folder)]
         self.done = subprocess.run(words, capture_output=True, text=True, timeout=5 * harness.MOST_SECONDS)
 
-    def test_pages(self):
+    def test_pages(self) -> None:
         """Each page is there, with its heading and its tables, and no link is lost."""
         self.same("docs/build", (self.done.returncode, self.done.stderr), (0, ""))
         self.each(((str(page.relative_to(ROOT)), page) for page in PAGES), self.look_at_page)
@@ -64,14 +66,14 @@ class Site(Case):
         made = (self.folder / "index.html").read_text()
         self.same("what the first page shows", 'src="docs/helped_mkdir.svg"' in made, True)
 
-    def look_at_page(self, page):
+    def look_at_page(self, page: pathlib.Path) -> None:
         name = page.relative_to(ROOT)
         name = name.with_name("index.html") if name.name == "README.md" else name.with_suffix(".html")
         made = (self.folder / name).read_text()
         heads = len(re.findall(r"^\\|(?:---\\|)+$".replace("\\\\", "\\"), page.read_text(), re.M))
         self.same("how many tables and headings it has", (made.count("<table>"), made.count("<h1")), (heads, 1))
 
-    def look_at_crate(self, crate):
+    def look_at_crate(self, crate: str) -> None:
         """The page of a crate has each public function and each of its clauses."""
         made = (self.folder / "api" / "rattle" / f"{crate}.html").read_text()
         for function in promises.public(ROOT / "crates" / crate):
@@ -84,12 +86,12 @@ class Site(Case):
             due = [clause.name for clause in (*function.requires, *function.ensures)]
             self.same(f"the clauses of {function.name}", clauses, due)
 
-    def test_definitions(self):
+    def test_definitions(self) -> None:
         """The words of the headline lead to where they are defined."""
         made = (self.folder / "api" / "rattle" / "fs_core.html").read_text()
         for name in ("IsLinearizable", "IsAtRest", "graph_shapes"):
             with self.subTest(name):
-                page, line = re.search(rf'<a href="(specs/[\w.]+\.html)#L(\d+)">{name}</a>', made).groups()
+                page, line = match_in(rf'<a href="(specs/[\w.]+\.html)#L(\d+)">{name}</a>', made).groups()
                 text = (self.folder / "api" / "rattle" / page).read_text()
                 self.assertRegex(text, rf'<span id="L{line}">[^<]*\b{name}\b')
 

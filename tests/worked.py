@@ -36,43 +36,45 @@ LAWFUL = Outcome(0, b"lawful\n")
 KINDS = {"".join(part.title() for part in status.name.split("_")): status for status in atomfs.Status}
 
 
-def examples(folder, ending):
+def examples(folder: pathlib.Path, ending: str) -> typing.Iterator[tuple[pathlib.Path, bytes]]:
     """The paths of a folder's inputs without their ending, and their bytes."""
     for path in sorted(folder.glob(f"*.{ending}")):
         yield path.with_suffix(""), path.read_bytes()
 
 
-def beside(example, *endings):
+def beside(example: pathlib.Path, *endings: str) -> bytes:
     """What stands in the first of these files that is there; nothing if none is."""
     paths = (pathlib.Path(f"{example}.{ending}") for ending in endings)
     return next((path.read_bytes() for path in paths if path.exists()), b"")
 
 
-def status(example):
+def status(example: pathlib.Path) -> int:
     return int(beside(example, "status") or 0)
 
 
-def drawn(first, runs):
+def drawn(first: int, runs: int) -> tuple[tuple[str, ...], Outcome]:
     """How so many drawn runs are asked for, and what comes of them."""
     words = ("seeds", "--seed", str(first), "--runs", str(runs))
     return words, Outcome(0, b"".join(b"seed %d lawful\n" % seed for seed in range(first, first + runs)))
 
 
-def calls(script):
+def calls(script: bytes) -> int:
     """How many calls a script has."""
     return sum(map(len, grammar.Script(script).calls.values()))
 
 
-def fault(message):
+def fault(message: bytes) -> tuple[atomfs.Status, int]:
     """What the library answers where the program tells this: a status, and a line."""
-    line, kind = re.match(r"atomfs: line (\d+): (\w+)( \w+)?\n", message.decode()).group(1, 2)
+    found = re.match(r"atomfs: line (\d+): (\w+)( \w+)?\n", message.decode())
+    assert found
+    line, kind = found.group(1, 2)
     return KINDS[kind], int(line)
 
 
 class Files(Case):
     """No input gets lost, and each file belongs to one."""
 
-    def look(self, folder, count, endings):
+    def look(self, folder: pathlib.Path, count: int, endings: tuple[str, ...]) -> None:
         files = [path.name.split(".", 1) for path in folder.iterdir()]
         inputs = {name for name, ending in files if ending in ("script", "journal")}
         self.same(f"the inputs of {folder.name}", len(inputs), count)
@@ -82,28 +84,28 @@ class Files(Case):
             [],
         )
 
-    def test_each_belongs_to_an_input(self):
+    def test_each_belongs_to_an_input(self) -> None:
         self.each(FOLDERS, self.look)
 
 
 class OfTheProgram(Case):
     """What the program writes, tells and ends with. What is asked depends on the stored files alone."""
 
-    def ends(self, words, given, wanted):
+    def ends(self, words: tuple[str, ...], given: bytes, wanted: Outcome) -> None:
         shown = f"atomfs {' '.join(words)}\n{given.decode(errors='backslashreplace')}"
         self.same(shown, run(given, *words), harness.with_line(wanted, given))
 
-    def all_end(self, rows):
+    def all_end(self, rows: typing.Iterable[tuple[pathlib.Path, tuple[str, ...], bytes, Outcome]]) -> None:
         """Looks at rows of an example, words, an input, and the outcome."""
         self.each(((f"{example.name} {' '.join(words)}", words, *rest) for example, words, *rest in rows), self.ends)
 
-    def test_runs_by_their_own_schedule(self):
+    def test_runs_by_their_own_schedule(self) -> None:
         self.all_end(
             (example, RUN, script, Outcome(status(example), beside(example, "text")))
             for example, script in examples(RUNS, "script")
         )
 
-    def test_runs_by_other_schedules(self):
+    def test_runs_by_other_schedules(self) -> None:
         """These go on until no call is left."""
         self.all_end(
             (example, words, script, Outcome(0, beside(example, text, "text")))
@@ -111,14 +113,14 @@ class OfTheProgram(Case):
             for words, text in ((ROBIN, "robin.text"), (DRAWN, "drawn.text"))
         )
 
-    def test_texts_of_runs_are_lawful(self):
+    def test_texts_of_runs_are_lawful(self) -> None:
         self.all_end((example, CHECK, text, LAWFUL) for example, text in examples(RUNS, "text"))
 
-    def test_drawn_runs(self):
+    def test_drawn_runs(self) -> None:
         words, wanted = drawn(7, 3)
         self.all_end((example, words, script, wanted) for example, script in examples(RUNS, "script"))
 
-    def test_a_hundred_drawn_runs(self):
+    def test_a_hundred_drawn_runs(self) -> None:
         words, wanted = drawn(1, 100)
         self.all_end(
             (example, words, script, wanted)
@@ -128,14 +130,14 @@ class OfTheProgram(Case):
         helped = RUNS / "helped_rename"
         self.all_end([(helped, words, beside(helped, "script"), wanted)])
 
-    def test_threads(self):
+    def test_threads(self) -> None:
         self.all_end(
             (example, THREADS, script, Outcome(0, b"lawful calls %d\n" % calls(script)))
             for folder in (RUNS, EXAMPLES, TOUR)
             for example, script in examples(folder, "script")
         )
 
-    def test_journals(self):
+    def test_journals(self) -> None:
         rows = [
             (example, CHECK, journal, Outcome(status(example), beside(example, "verdict"), beside(example, "message")))
             for example, journal in examples(JOURNALS, "journal")
@@ -145,7 +147,7 @@ class OfTheProgram(Case):
             rows.append((EXAMPLES / name, CHECK, beside(EXAMPLES / name, "journal"), wanted))
         self.all_end(rows)
 
-    def test_faults(self):
+    def test_faults(self) -> None:
         self.all_end(
             (example, words, text, Outcome(status(example), b"", beside(example, "message")))
             for ending, ways in (("script", (RUN, ROBIN, DRAWN, drawn(7, 3)[0], THREADS)), ("journal", (CHECK,)))
@@ -157,28 +159,30 @@ class OfTheProgram(Case):
 class OfTheLibrary(Case):
     """What the library answers: the same texts, or the kind of a fault and its line."""
 
-    def answers(self, ask, given, wanted):
+    def answers(self, ask: typing.Callable[[bytes], object], given: bytes, wanted: object) -> None:
         self.same(given, told(ask, given), wanted)
 
-    def all_answer(self, ask, rows):
+    def all_answer(
+        self, ask: typing.Callable[[bytes], object], rows: typing.Iterable[tuple[pathlib.Path, bytes, object]]
+    ) -> None:
         """Looks at rows of an example, an input, and the answer."""
         self.each(((example.name, ask, given, wanted) for example, given, wanted in rows), self.answers)
 
-    def test_runs(self):
+    def test_runs(self) -> None:
         self.all_answer(
             library().run, ((example, script, beside(example, "text")) for example, script in examples(RUNS, "script"))
         )
 
-    def test_texts_of_runs_are_lawful(self):
+    def test_texts_of_runs_are_lawful(self) -> None:
         self.all_answer(library().check, ((example, text, LAWFUL.output) for example, text in examples(RUNS, "text")))
 
-    def test_journals(self):
+    def test_journals(self) -> None:
         self.all_answer(
             library().check,
             ((example, journal, beside(example, "verdict")) for example, journal in examples(JOURNALS, "journal")),
         )
 
-    def test_faults(self):
+    def test_faults(self) -> None:
         for ending, ask in (("script", library().run), ("journal", library().check)):
             self.all_answer(
                 ask, ((example, text, fault(beside(example, "message"))) for example, text in examples(FAULTS, ending))
@@ -190,22 +194,22 @@ class Beginnings(Case):
 
     SCRIPT = beside(RUNS / "lowest_first", "script")
 
-    def due(self, beginning):
+    def due(self, beginning: bytes) -> object:
         try:
             grammar.Script(beginning)
         except grammar.Fault as first:
             return fault(f"atomfs: {first}\n".encode())
         return LAWFUL.output
 
-    def look(self, beginning):
+    def look(self, beginning: bytes) -> None:
         self.same(
             beginning, told(lambda script: library().check(library().run(script)), beginning), self.due(beginning)
         )
 
-    def test_each(self):
+    def test_each(self) -> None:
         self.each(((f"{end} bytes", self.SCRIPT[:end]) for end in range(len(self.SCRIPT))), self.look)
 
-    def test_up_to_the_schedule(self):
+    def test_up_to_the_schedule(self) -> None:
         """The first that is not refused."""
         end = self.SCRIPT.index(b"schedule") + len(b"schedule")
         refused = [at for at in range(end + 1) if isinstance(told(library().run, self.SCRIPT[:at]), tuple)]
@@ -225,14 +229,16 @@ class Command(typing.NamedTuple):
     writes: str
 
 
-def shown(path):
+def shown(path: pathlib.Path) -> typing.Iterator[Command]:
     """The commands that a file of the tour shows, in order."""
     for line in re.findall(r"^#? +examples/run (.+)$", path.read_text(), re.M):
-        words, reads, writes = re.fullmatch(r"([^<>]+?)(?: < (\S+))?(?: > (\S+))?", line).groups("")
+        found = re.fullmatch(r"([^<>]+?)(?: < (\S+))?(?: > (\S+))?", line)
+        assert found
+        words, reads, writes = found.groups("")
         yield Command(tuple(shlex.split(words)), reads, writes)
 
 
-def without_comments(text):
+def without_comments(text: str) -> list[str]:
     return [line for line in text.splitlines() if line and not line.startswith("#")]
 
 
@@ -254,7 +260,7 @@ class Tour(Case):
     # What the sixth step writes, and the commands behind it read.
     JOURNAL = "tour.journal"
 
-    def commands(self):
+    def commands(self) -> typing.Iterator[tuple[str, str, Command]]:
         """Each command as a row, but for those that read what the sixth step writes."""
         for step in self.STEPS:
             for command in shown(TOUR / step):
@@ -262,17 +268,17 @@ class Tour(Case):
                     yield f"{step} {' '.join(command.words)}", step, command
 
     @staticmethod
-    def given(command):
+    def given(command: Command) -> bytes:
         return (ROOT / command.reads).read_bytes() if command.reads else b""
 
-    def stored(self, command):
+    def stored(self, command: Command) -> pathlib.Path:
         """Where what a command writes is kept, if it is."""
         reads = pathlib.Path(command.reads).name
         if reads == self.STEPS[2] and command.words[0] in self.HELPED:
             return self.HELPED[command.words[0]]
         return DATA / "tour" / f"{reads.split('.')[0]}.{'_'.join(re.findall('[A-Za-z0-9]+', ' '.join(command.words)))}"
 
-    def test_steps(self):
+    def test_steps(self) -> None:
         """Each file is a step, and each that the program reads ends with the command that draws it."""
         self.same("examples/tour", sorted(path.name for path in TOUR.iterdir()), sorted((*self.STEPS, "README.md")))
         for step in self.STEPS:
@@ -281,10 +287,10 @@ class Tour(Case):
                 f"the last command of {step}", list(shown(TOUR / step))[-1], Command(("draw",), reads, "tour.svg")
             )
 
-    def test_what_they_write(self):
+    def test_what_they_write(self) -> None:
         self.each(self.commands(), self.look)
 
-    def look(self, step, command):
+    def look(self, step: str, command: Command) -> None:
         came = run(self.given(command), *command.words)
         is_wrong = step.endswith(".journal") and command.words[0] in ("check", "draw")
         self.same(f"{step}: {command}", came.status, int(is_wrong and harness.compares))
@@ -297,7 +303,7 @@ class Tour(Case):
         else:
             self.same(f"{step}: {command}", came.output, self.stored(command).read_bytes())
 
-    def look_at_picture(self, step, command, picture):
+    def look_at_picture(self, step: str, command: Command, picture: str) -> None:
         """It has each call of the journal, with its reply; the reply that was due in place of a wrong one; and the waits that the file speaks of."""
         text = self.given(command).decode()
         text = text if step.endswith(".journal") else run(text.encode(), "run").output.decode()
@@ -326,7 +332,7 @@ class Tour(Case):
             ["failed EEXIST"] if step.endswith(".journal") and harness.compares else [],
         )
 
-    def test_page(self):
+    def test_page(self) -> None:
         """The page has a part for each step, which leads to its file; and each command that it shows is one of that file, with lines that it writes."""
         page = (TOUR / "README.md").read_text()
         parts = re.split(r"^## \d+\. .*$", page.partition("## Try it yourself")[0], flags=re.M)[1:]
@@ -336,7 +342,7 @@ class Tour(Case):
             for block in re.findall(r"^```\n(.*?)^```$", part, re.M | re.S):
                 self.look_at_block(step, *block.splitlines())
 
-    def look_at_block(self, step, first, *lines):
+    def look_at_block(self, step: str, first: str, *lines: str) -> None:
         """Without the lines `..` it is what the command writes, in order, and whole where it has none."""
         typed = first.removeprefix("$ examples/run ")
         commands = {
@@ -350,13 +356,13 @@ class Tour(Case):
         pattern = ".*".join(map(re.escape, pieces))
         self.same(first, re.fullmatch(pattern, written, re.S) is not None, True)
 
-    def test_third_step(self):
+    def test_third_step(self) -> None:
         """It is the worked example by the third limits, with comments."""
         header, *helped = (RUNS / "helped_mkdir.script").read_text().splitlines()
         self.same("the header of the worked example", header, "atomfs 1")
         self.same(self.STEPS[2], without_comments((TOUR / self.STEPS[2]).read_text()), ["atomfs 3", *helped])
 
-    def test_kept_seeds(self):
+    def test_kept_seeds(self) -> None:
         """The fifth step is what its first command writes of the second, the seventh what its second writes of the third, and the eighth what its first writes of the seventh, with other comments."""
         kept = [
             (step, command)
@@ -368,7 +374,7 @@ class Tour(Case):
             written = self.stored(command).read_text()
             self.same(step, without_comments((TOUR / step).read_text()), without_comments(written))
 
-    def test_as_typed(self):
+    def test_as_typed(self) -> None:
         """Each command as a reader types it, where the program is built."""
         harness.takes_a_process()
         if "ATOMFS" in os.environ:
@@ -378,7 +384,7 @@ class Tour(Case):
             pathlib.Path(folder, "examples").symlink_to(EXAMPLES)
             self.each(((name, folder, command) for name, _, command in self.commands()), self.look_as_typed)
 
-    def look_as_typed(self, folder, command):
+    def look_as_typed(self, folder: str, command: Command) -> None:
         reads, writes = (
             f" {sign} {name}" if name else "" for sign, name in (("<", command.reads), (">", command.writes))
         )
@@ -394,7 +400,7 @@ class Tour(Case):
         due = run(self.given(command), *command.words)
         self.same(typed, (done.returncode, written), (due.status, due.output))
 
-    def test_in_python(self):
+    def test_in_python(self) -> None:
         """The sixth step: one of the two wins each race, and the journal that it writes is lawful."""
         harness.library()
         variables = {

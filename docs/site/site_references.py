@@ -91,7 +91,7 @@ def python(folder):
 PLAYED = {
     "A rename helps": "docs/pictures/rename_helps.script",
     "An exchange helps": "docs/pictures/both_sides.script",
-    "A wrong reply": "docs/pictures/memoryfs.journal",
+    "A reply that no order explains": "docs/pictures/memoryfs.journal",
 }
 PLAYS = "import sys, atomfs; atomfs.draw(open(sys.argv[1]).read(), html=True).save(sys.argv[2])"
 

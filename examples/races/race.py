@@ -3,12 +3,23 @@
     python3 examples/races/lost_update.py                          the race, cut down
     python3 examples/races/lost_update.py --repaired --runs 10000  the repair, which passes
 
+Exit status: 0 no race was found; 1 one was; 2 a usage error, or the package atomfs is missing.
+
 A race is a module with the functions THREADS, those of its repair REPAIRED, `before`, which prepares the tree, and `check`.
 """
 import argparse
 import sys
 
-import atomfs
+try:
+    import atomfs
+
+    atomfs.library_version()
+except (ImportError, OSError) as error:
+    print(
+        f"examples/races: the package atomfs is missing ({error}): bindings/python/README.md says how to install it",
+        file=sys.stderr,
+    )
+    sys.exit(2)
 
 
 def options(module):

@@ -1,7 +1,7 @@
 // Records the calls of threads on a file system of java.nio.file, and writes a history of each round, of which an order is found:
 //
-//     java -cp /usr/share/java/jimfs.jar:/usr/share/java/guava.jar examples/record/Record.java 1 | atomfs linearize --many
-//     java -cp /usr/share/java/jimfs.jar:/usr/share/java/guava.jar examples/record/Record.java 3 | atomfs linearize --many
+//     examples/record/record java 1 | atomfs linearize --many
+//     examples/record/record java 3 | atomfs linearize --many
 //
 // The words are how many threads make calls at once, 3; how many histories are recorded, 2000; and a seed, 0. One thread
 // comes first: what nothing explains there is another kind of tree, and no race. Debian has Jimfs as libjimfs-java. To record

@@ -8,7 +8,8 @@
  * output. With `moves` there are renames and exchanges, too. Linux looks a path up before it locks, so beside moves of directories other
  * calls may go through where a directory was: POSIX leaves that open.
  *
- * Exit status: 0 all histories are lawful; 1 one of threads is not; 2 one of one thread is not; 3 no history could be made or judged. */
+ * Exit status: 0 all histories are lawful; 1 one of threads is not; 2 one of one thread is not, a usage error, or DIR or `atomfs` is
+ * missing; 3 no history could be made or judged. */
 #define _GNU_SOURCE
 #include <errno.h>
 #include <fcntl.h>
@@ -49,6 +50,12 @@ static pthread_barrier_t together;
 static _Noreturn void fail(const char *what) {
     perror(what);
     exit(3);
+}
+
+/* Something is missing. */
+static _Noreturn void miss(const char *what, const char *why) {
+    fprintf(stderr, "%s: %s\n", what, why);
+    exit(2);
 }
 
 static int made(struct call *call) {
@@ -167,8 +174,11 @@ int main(int count, char **words) {
     char folder[4096];
     if (count < 2 || count > 5 || (count > 4 && !moves) || rounds <= 0) {
         fprintf(stderr, "usage: %s DIR [ROUNDS [SEED [moves]]]\n", words[0]);
-        return 3;
+        return 2;
     }
+    if (access(words[1], W_OK)) miss(words[1], strerror(errno));
+    if (system("command -v \"${ATOMFS:-atomfs}\" > /dev/null 2>&1"))
+        miss("record.c", "the program atomfs is missing: put it on the path, or name it with ATOMFS");
     snprintf(folder, sizeof folder, "%s/record-XXXXXX", words[1]);
     umask(022);
     if (mkdtemp(folder) == NULL) fail(words[1]);

@@ -1,11 +1,11 @@
 // Records the calls of goroutines on a tree of afero, and writes a history of each round, of which an order is found:
 //
-//	export GO111MODULE=off GOPATH=/usr/share/gocode
-//	go run examples/record/record.go -goroutines 1 | atomfs linearize --many
-//	go run examples/record/record.go | atomfs linearize --many
+//	examples/record/record go -goroutines 1 | atomfs linearize --many
+//	examples/record/record go | atomfs linearize --many
 //
-// One goroutine comes first: what nothing explains there is another kind of tree, and no race. The two variables are for
-// afero as Debian has it, golang-github-spf13-afero-dev. To record a tree of your own, wrap each call in History.Call.
+// One goroutine comes first: what nothing explains there is another kind of tree, and no race. Debian has
+// afero as golang-github-spf13-afero-dev. To record a tree of your own, put it into a Recorder, or a Reader if it is
+// one of io/fs.
 package main
 
 import (
@@ -16,6 +16,7 @@ import (
 	"io/fs"
 	"math/rand"
 	"os"
+	"path"
 	"sort"
 	"sync"
 	"sync/atomic"
@@ -35,13 +36,17 @@ type History struct {
 	entries [][]entry
 }
 
-// Call records a call: its line, and the reply that it spells when it has been made.
-func (history *History) Call(seat int, line string, made func() string) {
+// Call records a call: its line, and the reply that it spells when it has been made, or its error.
+func (history *History) Call(seat int, line string, made func() (string, error)) error {
 	begun := atomic.AddInt64(&history.counter, 1)
-	reply := made()
+	reply, err := made()
 	returned := atomic.AddInt64(&history.counter, 1)
+	if err != nil {
+		reply = failed(err)
+	}
 	history.entries[seat] = append(history.entries[seat], entry{begun, fmt.Sprintf("begin %d %d %s", begun, seat, line)},
 		entry{returned, fmt.Sprintf("return %d %s", begun, reply)})
+	return err
 }
 
 // Write writes the entries in the order of their numbers.
@@ -67,26 +72,87 @@ func failed(err error) string {
 	return "failed ?"
 }
 
-func call(tree afero.Fs, kind, path string) string {
-	done, err := "ok", error(nil)
-	switch kind {
-	case "mknod":
-		var file afero.File
-		if file, err = tree.OpenFile(path, os.O_RDWR|os.O_CREATE|os.O_EXCL, 0o666); err == nil {
-			err = file.Close()
-		}
-	case "unlink":
-		err = tree.Remove(path)
-	case "stat":
-		var info fs.FileInfo
-		if info, err = tree.Stat(path); err == nil {
-			done = fmt.Sprintf("stat file %d", info.Size())
-		}
-	}
+func seen(info fs.FileInfo, err error) (string, error) {
 	if err != nil {
-		return failed(err)
+		return "", err
+	} else if info.IsDir() {
+		return "stat dir ?", nil
 	}
-	return done
+	return fmt.Sprintf("stat file %d", info.Size()), nil
+}
+
+// Recorder is an afero.Fs that records the calls of one goroutine on another. Calls that it does not name are not recorded.
+type Recorder struct {
+	afero.Fs
+	history *History
+	seat    int
+}
+
+func (to Recorder) Mkdir(path string, mode os.FileMode) error {
+	return to.history.Call(to.seat, "mkdir "+path, func() (string, error) { return "ok", to.Fs.Mkdir(path, mode) })
+}
+
+// OpenFile is recorded if it makes a file that may not be there.
+func (to Recorder) OpenFile(path string, flags int, mode os.FileMode) (file afero.File, err error) {
+	if flags&os.O_CREATE == 0 || flags&os.O_EXCL == 0 {
+		return to.Fs.OpenFile(path, flags, mode)
+	}
+	err = to.history.Call(to.seat, "mknod "+path, func() (string, error) {
+		file, err = to.Fs.OpenFile(path, flags, mode)
+		return "ok", err
+	})
+	return file, err
+}
+
+// Remove is recorded as that of a file.
+func (to Recorder) Remove(path string) error {
+	return to.history.Call(to.seat, "unlink "+path, func() (string, error) { return "ok", to.Fs.Remove(path) })
+}
+
+func (to Recorder) Rename(old, path string) error {
+	return to.history.Call(to.seat, "rename "+old+" "+path, func() (string, error) { return "ok", to.Fs.Rename(old, path) })
+}
+
+func (to Recorder) Stat(path string) (info os.FileInfo, err error) {
+	err = to.history.Call(to.seat, "stat "+path, func() (string, error) {
+		info, err = to.Fs.Stat(path)
+		return seen(info, err)
+	})
+	return info, err
+}
+
+// Reader is an fs.FS that records what one goroutine looks up in another.
+type Reader struct {
+	fs.FS
+	history *History
+	seat    int
+}
+
+func (from Reader) Stat(name string) (info fs.FileInfo, err error) {
+	err = from.history.Call(from.seat, "stat "+path.Join("/", name), func() (string, error) {
+		info, err = fs.Stat(from.FS, name)
+		return seen(info, err)
+	})
+	return info, err
+}
+
+// work makes drawn calls, each after a drawn moment.
+func work(tree afero.Fs, files fs.FS, draw *rand.Rand) {
+	for at := 0; at < 4; at++ {
+		time.Sleep(time.Duration(draw.Intn(20)) * time.Microsecond)
+		switch path := []string{"/a", "/b"}[draw.Intn(2)]; draw.Intn(8) {
+		case 0, 1:
+			tree.Remove(path)
+		case 2:
+			tree.Stat(path)
+		case 3:
+			fs.Stat(files, path[1:])
+		default:
+			if file, err := tree.OpenFile(path, os.O_RDWR|os.O_CREATE|os.O_EXCL, 0o666); err == nil {
+				file.Close()
+			}
+		}
+	}
 }
 
 func main() {
@@ -98,16 +164,13 @@ func main() {
 	defer out.Flush()
 	for round := 0; round < *rounds; round++ {
 		tree, history := afero.NewMemMapFs(), &History{entries: make([][]entry, *goroutines)}
+		files := afero.NewIOFS(afero.NewBasePathFs(tree, "/"))
 		var all sync.WaitGroup
 		for seat := 0; seat < *goroutines; seat++ {
 			all.Add(1)
 			go func(seat int, own *rand.Rand) {
 				defer all.Done()
-				for at := 0; at < 4; at++ {
-					time.Sleep(time.Duration(own.Intn(20)) * time.Microsecond)
-					kind, path := []string{"mknod", "unlink", "stat"}[own.Intn(3)], []string{"/a", "/b"}[own.Intn(2)]
-					history.Call(seat, kind+" "+path, func() string { return call(tree, kind, path) })
-				}
+				work(Recorder{tree, history, seat}, Reader{files, history, seat}, own)
 			}(seat, rand.New(rand.NewSource(draw.Int63())))
 		}
 		all.Wait()

@@ -1,5 +1,5 @@
 #!/usr/bin/env python3
-"""Records the calls of threads on a tree in memory, of PyFilesystem2 or of this package, and finds an order of them.
+"""Records the calls of threads on a tree in memory, of PyFilesystem2, of pyfakefs or of this package, and finds an order of them.
 
 Install the package, or build the library with `embed/build` and say where it is:
 
@@ -7,9 +7,11 @@ Install the package, or build the library with `embed/build` and say where it is
 
     python3 examples/record/record.py Tree
     python3 examples/record/record.py MemoryFS > none.history
+    python3 examples/record/record.py pyfakefs > none.history
 
 MemoryFS is a tree of PyFilesystem2: Debian's python3-fs, or `pip install fs`. One of its threads removes a directory, and what another
-one made in it meanwhile is lost.
+one made in it meanwhile is lost. pyfakefs is a tree for tests: Debian's python3-pyfakefs, or `pip install pyfakefs`. To record another
+tree, add a function that makes one call on it.
 
 One thread records first: if even that has no order, the tree is of another kind. Then three threads make four random calls each,
 round after round. The first history that no order explains goes to standard output.
@@ -19,8 +21,10 @@ Exit status: 0 all histories are lawful; 1 one of threads is not; 2 one of one t
 import argparse
 import concurrent.futures
 import inspect
+import os
 import random
 import re
+import stat
 import sys
 import threading
 import time
@@ -54,6 +58,27 @@ def on_memory_fs(files, name, path, answer):
         answer.stat(info.is_dir, info.size)
 
 
+def on_fake_os(files, name, path, answer):
+    """Makes a call on a tree of pyfakefs, which stands in for the module `os`."""
+    if name == "mknod":
+        files.close(files.open(path, os.O_CREAT | os.O_EXCL | os.O_WRONLY))
+    elif name == "readdir":
+        answer.names(files.listdir(path))
+    elif name == "stat":
+        found = files.stat(path)
+        answer.stat(stat.S_ISDIR(found.st_mode), found.st_size)
+    else:
+        getattr(files, name)(path)
+
+
+def fake_os():
+    """A tree of pyfakefs with nothing in it."""
+    from pyfakefs import fake_filesystem
+
+    files = fake_filesystem.FakeFilesystem()
+    return fake_filesystem.FakeOsModule(files)
+
+
 def on_tree(tree, name, path, answer):
     """Makes a call on a tree of this package, whose `stat` knows how many entries a directory has."""
     reply = getattr(tree, name)(path)
@@ -65,8 +90,9 @@ def on_tree(tree, name, path, answer):
 
 def record(tree, make, lists):
     """The history of lists of calls, each on a thread of its own."""
-    # Where a path leads through a file, MemoryFS says that an assertion failed, and changes nothing.
-    history, together = atomfs.History(errors={AssertionError: None}), threading.Barrier(len(lists))
+    # If a path leads through a file, MemoryFS says that an assertion failed; pyfakefs unlinks no directory, and says so. Nothing changes.
+    any_error = {AssertionError: None, IsADirectoryError: None}
+    history, together = atomfs.History(errors=any_error), threading.Barrier(len(lists))
 
     def work(calls):
         together.wait()
@@ -117,7 +143,7 @@ def needs(name, why):
 
 def main():
     words = argparse.ArgumentParser(description=__doc__, formatter_class=argparse.RawDescriptionHelpFormatter)
-    words.add_argument("tree", choices=("MemoryFS", "Tree"))
+    words.add_argument("tree", choices=("MemoryFS", "pyfakefs", "Tree"))
     words.add_argument("--rounds", type=int, default=2_000)
     words.add_argument("--seed", type=int, default=0, help="draws the calls, and where threads stop")
     given = words.parse_args()
@@ -128,13 +154,19 @@ def main():
             from fs.memoryfs import MemoryFS as new
         except ImportError as error:
             needs("PyFilesystem2", error)
-        make = on_memory_fs
+        make, traced = on_memory_fs, new
+    elif given.tree == "pyfakefs":
+        try:
+            traced = type(fake_os().filesystem)
+        except ImportError as error:
+            needs("pyfakefs", error)
+        new, make = fake_os, on_fake_os
     else:
-        new, make = atomfs.Tree, on_tree
+        new, make, traced = atomfs.Tree, on_tree, atomfs.Tree
     draw = random.Random(given.seed)
     for _ in range(ALONE):
         judge(record(new(), make, drawn(draw, 1, THREADS * CALLS)), "one thread, so this is another kind of tree", 2)
-    threading.settrace(pauses(draw, new))
+    threading.settrace(pauses(draw, traced))
     for at in range(given.rounds):
         judge(record(new(), make, drawn(draw, THREADS, CALLS)), f"round {at}", 1)
     print(f"all are lawful: {ALONE} histories of one thread, {given.rounds} of {THREADS} threads")

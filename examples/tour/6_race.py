@@ -15,7 +15,16 @@ Draw it:
 import random
 import sys
 
-import atomfs
+try:
+    import atomfs
+
+    atomfs.library_version()
+except (ImportError, OSError) as error:
+    print(
+        f"examples/tour/6_race.py: the package atomfs is missing ({error}): bindings/python/README.md says how to install it",
+        file=sys.stderr,
+    )
+    sys.exit(2)
 
 
 def race(tree, draw):

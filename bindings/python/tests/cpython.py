@@ -19,6 +19,7 @@ import subprocess
 import sys
 import tempfile
 import traceback
+import typing
 import unittest
 
 PACKAGE = "libpython3.11-testsuite"
@@ -85,6 +86,8 @@ MODULES = (
     *("test_pyclbr", "test_doctest", "test_imghdr", "test_aifc", "test_cgi", "test_warnings", "test_support"),
 )
 GOOD = ("passed", "expected")
+# What became of tests, and the words of their errors.
+Outcomes = typing.Dict[str, typing.Tuple[str, str]]
 # Why a test that passes on the disk does not in a tree: by its name and its error, as `Class.test | error`.
 REASONS = {
     "a tree has no hard links": (
@@ -120,39 +123,39 @@ REASONS = {
 class Result(unittest.TestResult):
     """What became of each test, with the last lines of its error."""
 
-    def __init__(self):
+    def __init__(self) -> None:
         super().__init__()
-        self.of = {}
+        self.of: Outcomes = {}
 
-    def addSuccess(self, test):
+    def addSuccess(self, test: typing.Any) -> None:
         self.of.setdefault(test.id(), ("passed", ""))
 
-    def addExpectedFailure(self, test, error):
+    def addExpectedFailure(self, test: typing.Any, error: typing.Any) -> None:
         self.of[test.id()] = "expected", ""
 
-    def addSkip(self, test, reason):
+    def addSkip(self, test: typing.Any, reason: str) -> None:
         super().addSkip(test, reason)
         self.of.setdefault(test.id(), ("skipped", str(reason)))
 
-    def addFailure(self, test, error):
+    def addFailure(self, test: typing.Any, error: typing.Any) -> None:
         self.of[test.id()] = "failed", words_of(error)
 
-    def addError(self, test, error):
+    def addError(self, test: typing.Any, error: typing.Any) -> None:
         self.of[test.id()] = "error", words_of(error)
 
-    def addSubTest(self, test, subtest, error):
+    def addSubTest(self, test: typing.Any, subtest: typing.Any, error: typing.Any) -> None:
         if error is not None:
             self.of[test.id()] = "failed" if issubclass(error[0], test.failureException) else "error", words_of(error)
 
 
-def words_of(error):
+def words_of(error: typing.Any) -> str:
     """An error in a few lines: where it was raised, and its words."""
     frames = traceback.extract_tb(error[2])
     at = [f"{pathlib.Path(frame.filename).name}:{frame.lineno} {frame.name}" for frame in frames[-4:]]
     return f"{' < '.join(reversed(at))} | {''.join(traceback.format_exception_only(*error[:2])).strip()[-1500:]}"
 
 
-def run_module(name):
+def run_module(name: str) -> Outcomes:
     """The outcome of each test of a module, which is imported where it is to work."""
     importlib.import_module(f"test.{name}")
     result = Result()
@@ -162,12 +165,12 @@ def run_module(name):
     return result.of
 
 
-def below(folder):
+def below(folder: str) -> typing.List[str]:
     """What is on the disk below a directory."""
     return sorted(os.path.join(at, name) for at, folders, files in os.walk(folder) for name in (*folders, *files))
 
 
-def child(place, name, folder):
+def child(place: str, name: str, folder: str) -> typing.NoReturn:
     """Runs a module in this process, and tells what came of it as a line of JSON."""
     out = os.dup(1)
     os.dup2(2, 1)
@@ -177,7 +180,7 @@ def child(place, name, folder):
     there = set(os.listdir("/"))
     if place == "disk":
         tempfile.tempdir = real
-        outcomes, left = run_module(name), []
+        outcomes, left = run_module(name), list[str]()
     else:
         outcomes, left = in_tree(name, folder, real, there)
     os.write(out, json.dumps({"of": outcomes, "left": left}).encode() + b"\n")
@@ -186,7 +189,7 @@ def child(place, name, folder):
     os._exit(0)
 
 
-def in_tree(name, folder, real, there):
+def in_tree(name: str, folder: str, real: str, there: typing.Set[str]) -> typing.Tuple[Outcomes, typing.List[str]]:
     """The same in a tree that stands beside a real directory, and what came to the disk."""
     import atomfs
 
@@ -204,10 +207,10 @@ def in_tree(name, folder, real, there):
     return outcomes, [*below(real), *(f"/{one}" for one in set(os.listdir("/")) - there if one.startswith("@test"))]
 
 
-PATCH = {"processes": True}
+PATCH: typing.Dict[str, typing.Any] = {"processes": True}
 
 
-def ran(place, name, seconds):
+def ran(place: str, name: str, seconds: int) -> typing.Any:
     """What a process that runs a module has told: none where it was ended by the limit of time."""
     folder = tempfile.mkdtemp(prefix="cpython-")
     try:
@@ -225,13 +228,13 @@ def ran(place, name, seconds):
         shutil.rmtree(folder, ignore_errors=True)
 
 
-def reason_of(name, words):
+def reason_of(name: str, words: str) -> typing.Optional[str]:
     """Why a test does not pass in a tree, if there is a reason for it."""
     text = f"{'.'.join(name.split('.')[-2:])} | {words}"
     return next((why for why, patterns in REASONS.items() if any(re.search(one, text) for one in patterns)), None)
 
 
-def lost(disk, tree):
+def lost(disk: Outcomes, tree: Outcomes) -> typing.Iterator[typing.Tuple[str, typing.Optional[str], str]]:
     """The tests that pass on the disk and not in a tree, with the reason for each, or none, and the error."""
     for name, (kind, _) in disk.items():
         now, words = tree.get(name, ("missing", ""))
@@ -239,24 +242,26 @@ def lost(disk, tree):
             yield name, reason_of(name, words), words
 
 
-def counts(of):
+def counts(of: Outcomes) -> str:
     found = collections.Counter({"expected": "passed"}.get(kind, kind) for kind, _ in of.values())
     return " / ".join(str(found[kind]) for kind in ("passed", "failed", "error", "skipped"))
 
 
-def kept(path, place, name, seconds):
+def kept(path: typing.Optional[pathlib.Path], place: str, name: str, seconds: int) -> typing.Any:
     """What a module came to, from a file of before, if it is there."""
     file = path and path / f"{name}.{place}.json"
     if file and file.exists():
         return json.loads(file.read_text())
     found = ran(place, name, seconds)
-    if file and found:
+    if path and file and found:
         path.mkdir(exist_ok=True)
         file.write_text(json.dumps(found))
     return found
 
 
-def compared(name, seconds, disk=None, tree=None):
+def compared(
+    name: str, seconds: int, disk: typing.Optional[pathlib.Path] = None, tree: typing.Optional[pathlib.Path] = None
+) -> typing.Tuple[str, int, int, typing.List[str], typing.List[str]]:
     """The line of a module, how many of its tests pass on the disk and in a tree, why others do not, and what is wrong."""
     both = [kept(path, place, name, seconds) for place, path in (("disk", disk), ("tree", tree))]
     if None in both:
@@ -272,7 +277,7 @@ def compared(name, seconds, disk=None, tree=None):
     return line, passed, passed - len(gone), [why for _, why, _ in gone if why], faults
 
 
-def main():
+def main() -> None:
     words = argparse.ArgumentParser(description=__doc__, formatter_class=argparse.RawDescriptionHelpFormatter)
     words.add_argument("--quick", action="store_true", help="only the modules that tests/run has")
     words.add_argument("--seconds", type=int, default=300, help="end a module after so many")
@@ -282,7 +287,8 @@ def main():
     words.add_argument("--tree", type=pathlib.Path, help="the same of the tree")
     words.add_argument("modules", nargs="*", metavar="MODULE")
     given = words.parse_args()
-    sums, reasons, faults = [0, 0], collections.Counter(), []
+    sums, faults = [0, 0], list[str]()
+    reasons: typing.Counter[str] = collections.Counter()
     for name in given.modules or (QUICK if given.quick else MODULES):
         line, on_disk, in_tree, why, wrong = compared(name, given.seconds, given.disk, given.tree)
         print(line, flush=True)
@@ -290,8 +296,8 @@ def main():
         reasons.update(why)
         faults += wrong
     print(f"of {sums[0]:,} tests that pass on the disk {sums[1]:,} pass in a tree")
-    for why, count in reasons.most_common():
-        print(f"{count} do not, since {why}")
+    for reason, count in reasons.most_common():
+        print(f"{count} do not, since {reason}")
     print(*faults, sep="\n")
     sys.exit(bool(faults))
 

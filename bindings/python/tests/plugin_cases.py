@@ -3,6 +3,7 @@ import io
 import os
 import pathlib
 import re
+import typing
 import xml.etree.ElementTree as ElementTree
 import zipfile
 
@@ -18,14 +19,14 @@ SECTION = [
 ]
 
 
-def outcomes(pytester, text, *options, **counts):
+def outcomes(pytester: pytest.Pytester, text: str, *options: str, **counts: int) -> pytest.RunResult:
     pytester.makepyfile(text)
     result = pytester.runpytest("-p", "no:cacheprovider", "--strict-markers", *options)
     result.assert_outcomes(**counts)
     return result
 
 
-def test_fixtures(pytester):
+def test_fixtures(pytester: pytest.Pytester) -> None:
     """The three are one tree, and each test has its own."""
     text = """
         import atomfs
@@ -48,7 +49,7 @@ def test_fixtures(pytester):
     outcomes(pytester, text, passed=5)
 
 
-def test_mark(pytester):
+def test_mark(pytester: pytest.Pytester) -> None:
     """A directory, a zip and a dictionary, read from the folder where pytest is run, and limits."""
     (pytester.mkdir("data") / "f").write_text("text")
     packed = io.BytesIO()
@@ -89,12 +90,12 @@ def test_mark(pytester):
         ("load={'a': b'', 'b': b''}, limit=2", "*All 2 nodes of the tree are in use: '/b'*"),
     ],
 )
-def test_mark_refused(pytester, words, told):
+def test_mark_refused(pytester: pytest.Pytester, words: str, told: str) -> None:
     text = f"import pytest\n@pytest.mark.atomfs({words})\ndef test_one(atom_tree):\n    pass\n"
     outcomes(pytester, text, errors=1).stdout.fnmatch_lines([told])
 
 
-def test_markers(pytester):
+def test_markers(pytester: pytest.Pytester) -> None:
     pytester.runpytest("--markers").stdout.fnmatch_lines(["@pytest.mark.atomfs(load=None, *"])
 
 
@@ -106,7 +107,7 @@ FAILS = """
 """
 
 
-def test_patch(pytester):
+def test_patch(pytester: pytest.Pytester) -> None:
     """The tree of the test stands at the directory of the mark until the test ends, also where it fails."""
     text = """
         import os
@@ -137,14 +138,14 @@ def test_patch(pytester):
     result.stdout.fnmatch_lines(["*ValueError: a tree stands at a directory below the root*"])
 
 
-def test_section(pytester):
+def test_section(pytester: pytest.Pytester) -> None:
     """A test that fails shows the tree and the last calls, and one that passes does not."""
     result = outcomes(pytester, FAILS.format(False), failed=1)
     result.stdout.fnmatch_lines([*SECTION, "mkdir /a: ok", "mknod /a/f: ok", "write /a/f 0 6162: wrote 2"])
     outcomes(pytester, FAILS.format(True), "-rA", passed=1).stdout.no_fnmatch_line("*The last calls*")
 
 
-def pictured(result):
+def pictured(result: pytest.RunResult) -> typing.List[pathlib.Path]:
     """The paths of the pictures that a report names, each of one SVG element. A page that plays the same calls is beside each."""
     paths = [pathlib.Path(path) for path in re.findall(r"(?m)^The picture: (.*)$", result.stdout.str())]
     pages = [pathlib.Path(path) for path in re.findall(r"(?m)^The page: (.*)$", result.stdout.str())]
@@ -156,7 +157,7 @@ def pictured(result):
     return paths
 
 
-def test_picture(pytester):
+def test_picture(pytester: pytest.Pytester) -> None:
     """It is in the tmp_path of the test, or in a folder of its own beside those; a test that makes no call has none."""
     text = """
         def test_own(atom_tree, tmp_path):
@@ -183,7 +184,7 @@ def test_picture(pytester):
     ]
 
 
-def test_picture_of_a_patch(pytester):
+def test_picture_of_a_patch(pytester: pytest.Pytester) -> None:
     """It is on the disk, also where the tree stands above it, and where the test works in the tree."""
     text = f"""
         import os
@@ -198,7 +199,7 @@ def test_picture_of_a_patch(pytester):
     assert len(pictured(outcomes(pytester, text, "--basetemp=temp", failed=1))) == 1
 
 
-def test_no_picture(pytester):
+def test_no_picture(pytester: pytest.Pytester) -> None:
     """A report says why it has none."""
     text = """
         def test_taken(atom_tree, tmp_path):
@@ -211,7 +212,7 @@ def test_no_picture(pytester):
     assert pictured(result) == []
 
 
-def test_explore(pytester):
+def test_explore(pytester: pytest.Pytester) -> None:
     """The report of a run that fails names its picture and its page, which the exception has too."""
     text = """
         import atomfs
@@ -244,7 +245,7 @@ def test_explore(pytester):
     )
 
 
-def test_functions(pytester):
+def test_functions(pytester: pytest.Pytester) -> None:
     """The report of functions has the lines of the test's own file, and those of the package not."""
     text = """
         import os
@@ -281,7 +282,7 @@ def test_functions(pytester):
     assert len(pictured(result)) == 2
 
 
-def test_section_of_last_calls(pytester):
+def test_section_of_last_calls(pytester: pytest.Pytester) -> None:
     text = """
         def test_one(atom_tree):
             for at in range(50):
@@ -293,7 +294,7 @@ def test_section_of_last_calls(pytester):
     result.stdout.no_fnmatch_line("stat /19:*")
 
 
-def test_verdict(pytester):
+def test_verdict(pytester: pytest.Pytester) -> None:
     """A journal that is not lawful is an error at the end of the test, with the tree."""
     text = """
         def test_one(atom_tree):
@@ -306,7 +307,7 @@ def test_verdict(pytester):
     )
 
 
-def test_closed(pytester):
+def test_closed(pytester: pytest.Pytester) -> None:
     """A tree that the test closes has no verdict, and where the test fails too its report says so."""
     text = """
         def test_passes(atom_tree):
@@ -319,7 +320,7 @@ def test_closed(pytester):
     outcomes(pytester, text, passed=1, failed=1).stdout.fnmatch_lines(["*- atom_tree -*", "<atomfs.Tree closed>"])
 
 
-def test_large_journal(pytester):
+def test_large_journal(pytester: pytest.Pytester) -> None:
     """A journal is checked also where no text could hold it."""
     text = """
         def test_one(atom_tree):
@@ -369,7 +370,7 @@ IN_MEMORY = """
 """
 
 
-def test_in_memory(pytester, tmp_path):
+def test_in_memory(pytester: pytest.Pytester, tmp_path: pathlib.Path) -> None:
     """Tests that know nothing of this run in trees by one word, and leave nothing on the disk."""
     pytester.makepyfile(IN_MEMORY)
     outcomes(pytester, IN_MEMORY, "--atomfs", passed=3)
@@ -379,7 +380,7 @@ def test_in_memory(pytester, tmp_path):
     assert (pytester.path / "relative").exists()
 
 
-def test_in_memory_at(pytester):
+def test_in_memory_at(pytester: pytest.Pytester) -> None:
     """A directory of the disk is as it was, whatever tests do there; a failed test has its tree, its journal and its picture."""
     (pytester.mkdir("data") / "f").write_text("data")
     text = """
@@ -411,13 +412,13 @@ def test_in_memory_at(pytester):
     assert "stat /data/f" not in journal.split("mkdir /new")[1]
 
 
-def below(top):
+def below(top: pathlib.Path) -> typing.Dict[pathlib.Path, typing.Tuple[int, typing.Union[bool, bytes]]]:
     """All that is below a directory of the disk, with times and contents."""
     paths = (path for path in top.rglob("*") if "__pycache__" not in path.parts and path.name != ".pytest_cache")
     return {path: (path.lstat().st_mtime_ns, path.is_file() and path.read_bytes()) for path in paths}
 
 
-def test_in_memory_overlay(pytester):
+def test_in_memory_overlay(pytester: pytest.Pytester) -> None:
     """Tests read the project's own files, and what they change there is theirs alone."""
     data = pytester.mkdir("data")
     (data / "in.txt").write_text("of the disk")
@@ -468,7 +469,7 @@ def test_in_memory_overlay(pytester):
     result.stderr.fnmatch_lines(["ERROR: --atomfs-overlay: there is no directory none"])
 
 
-def test_in_memory_with_fixtures(pytester):
+def test_in_memory_with_fixtures(pytester: pytest.Pytester) -> None:
     """Pytest's own fixtures and those of this plugin do there what they do elsewhere."""
     text = """
         import os
@@ -499,7 +500,7 @@ def test_in_memory_with_fixtures(pytester):
     outcomes(pytester, text, "--atomfs", passed=5)
 
 
-def test_in_memory_with_xdist(pytester):
+def test_in_memory_with_xdist(pytester: pytest.Pytester) -> None:
     """Each worker has trees of its own."""
     pytest.importorskip("xdist")
     text = """
@@ -516,5 +517,5 @@ def test_in_memory_with_xdist(pytester):
     assert not list(pytester.path.glob("only_*"))
 
 
-def test_options(pytester):
+def test_options(pytester: pytest.Pytester) -> None:
     pytester.runpytest("--help").stdout.fnmatch_lines(["*--atomfs *", "*--atomfs-at=DIR*", "*--atomfs-overlay=DIR*"])

@@ -12,6 +12,7 @@ import time
 import types
 import unittest
 import unittest.mock
+from typing import Any, Callable, Dict, List, Set, Tuple
 
 import atomfs
 from atomfs import _calls, _values
@@ -20,21 +21,23 @@ from atomfs._tree import Stat, Step
 # How many calls are drawn, and for how long a thread is looked at that is to wait.
 DRAWN, SOON = int(os.environ.get("ATOMFS_DRAWN", "3000")), 0.2
 HAS_EXTENSION = atomfs.binding() == "extension"
+# A tree by each way.
+Pair = Tuple[atomfs.Tree, atomfs.Tree]
 
 
 class Odd:
     """A path, or a number, of a type of its own."""
 
-    def __init__(self, value):
+    def __init__(self, value: Any) -> None:
         self.value = value
 
-    def __fspath__(self):
+    def __fspath__(self) -> Any:
         return self.value
 
-    def __index__(self):
+    def __index__(self) -> Any:
         return self.value
 
-    def __repr__(self):
+    def __repr__(self) -> str:
         return f"Odd({self.value!r})"
 
 
@@ -42,13 +45,13 @@ class Text(str):
     """A string of a type of its own."""
 
 
-PATHS = [
+PATHS: List[Any] = [
     *("/", "/a", "/a/b", "/a/b/c", "/f", "/f/x", "/ü", "/a/\udcff", "//a//", "/a/", "", "a", "/.", "/a/..", "/\0"),
     *(b"/a", b"/f", b"/a/\xff", Text("/a"), Odd("/a"), Odd(b"/f"), pathlib.PurePosixPath("/a/b")),
     *("/" + 255 * "n", "/" + 256 * "n", 2_048 * "/m", 2_049 * "/m", "/\ud800"),
     *(None, 3, 1.5, Odd(3), Odd(None), ["/a"], bytearray(b"/a"), memoryview(b"/a")),
 ]
-NUMBERS = [
+NUMBERS: List[Any] = [
     *(
         0,
         1,
@@ -69,7 +72,7 @@ NUMBERS = [
     ),
     *(-1, -(2**63), -(2**80), True, None, "1", 1.0, Odd(5), Odd(-5), Odd("x")),
 ]
-DATA = [
+DATA: List[Any] = [
     *(
         b"",
         b"x",
@@ -83,7 +86,7 @@ DATA = [
     *(memoryview(b"abcdef")[::2], memoryview(bytes(16)).cast("i"), "text", None, 7, [1, 2], Odd(b"x")),
 ]
 # The calls, and what each takes.
-CALLS = {
+CALLS: Dict[str, Tuple[List[Any], ...]] = {
     **dict.fromkeys(("mkdir", "mknod", "unlink", "rmdir", "stat", "readdir", "listdir"), (PATHS,)),
     **dict.fromkeys(("exists", "is_dir", "is_file"), (PATHS,)),
     **dict.fromkeys(("rename", "exchange"), (PATHS, PATHS)),
@@ -94,13 +97,13 @@ CALLS = {
 HUGE = 2**21
 
 
-def by_ctypes(tree):
+def by_ctypes(tree: atomfs.Tree) -> atomfs.Tree:
     """Lets the calls of a tree go by ctypes."""
     tree._calls = _calls.ByCtypes(Stat, Step)
     return tree
 
 
-def told(call, *given):
+def told(call: Callable[..., object], *given: Any) -> Tuple[Any, ...]:
     """What a call answers, or raises, with what its error says."""
     try:
         answer = call(*given)
@@ -112,26 +115,26 @@ def told(call, *given):
 
 @unittest.skipUnless(HAS_EXTENSION, f"there is no extension here: {atomfs.binding()}")
 class BothWays(unittest.TestCase):
-    def pair(self, *given, **named):
+    def pair(self, *given: Any, **named: Any) -> Pair:
         trees = atomfs.Tree(*given, **named), by_ctypes(atomfs.Tree(*given, **named))
         for tree in trees:
             self.addCleanup(tree.close)
         return trees
 
-    def same(self, name, trees, *given):
+    def same(self, name: str, trees: Pair, *given: Any) -> Tuple[Any, ...]:
         """A call answers the same by both ways."""
         one, other = (told(getattr(tree, name), *given) for tree in trees)
         self.assertEqual(one, other, f"{name}{given!r}"[:500])
         return one
 
-    def same_journals(self, trees):
+    def same_journals(self, trees: Pair) -> None:
         one, other = trees
         self.assertEqual([len(tree) for tree in trees], [one.tree().count("\n") - 1] * 2)
         self.assertEqual(one.journal(), other.journal())
         self.assertEqual((one.tree(), one.calls, one.calls_before), (other.tree(), other.calls, other.calls_before))
         self.assertEqual((one.check(), other.check()), ("lawful", "lawful"))
 
-    def drawn(self, seed, trees, calls=DRAWN):
+    def drawn(self, seed: int, trees: Pair, calls: int = DRAWN) -> Set[object]:
         """Calls that are drawn, of which some are refused."""
         draw, kinds = random.Random(seed), set()
         for _ in range(calls):
@@ -142,15 +145,15 @@ class BothWays(unittest.TestCase):
             kinds.add(self.same(name, trees, *given)[0])
         return kinds
 
-    def test_drawn(self):
+    def test_drawn(self) -> None:
         """Drawn calls, of which many are given what is none: answers, errors with their words and paths, and journals."""
         trees = self.pair(64)
         kinds = self.drawn(20261130, trees)
-        wanted = {FileNotFoundError, FileExistsError, TypeError, ValueError, Stat, bytes, int, list}
+        wanted: Set[object] = {FileNotFoundError, FileExistsError, TypeError, ValueError, Stat, bytes, int, list}
         self.assertLessEqual(wanted, kinds if DRAWN >= 3_000 else wanted)
         self.same_journals(trees)
 
-    def test_forgets(self):
+    def test_forgets(self) -> None:
         """The same of trees that forget by themselves."""
         for journal in (atomfs.NONE, atomfs.LAST(7)):
             trees = self.pair(64, journal=journal)
@@ -164,7 +167,7 @@ class BothWays(unittest.TestCase):
             self.drawn(most.most, trees, min(DRAWN, 200))
             self.same_journals(trees)
 
-    def test_limits(self):
+    def test_limits(self) -> None:
         """The same by the first two sets of limits, and of little room for names."""
         for limits in (atomfs.Limits.V1, atomfs.Limits.V2):
             trees = self.pair(limits=limits)
@@ -176,7 +179,7 @@ class BothWays(unittest.TestCase):
         self.drawn(3, trees, 500)
         self.same_journals(trees)
 
-    def test_full_directory(self):
+    def test_full_directory(self) -> None:
         """Words of limits: of a full directory, of too many names, of a full tree, of a file that would be too large."""
         trees = self.pair(300, limits=atomfs.Limits.V1)
         for number in range(257):
@@ -193,7 +196,7 @@ class BothWays(unittest.TestCase):
         self.assertEqual(len(self.same("listdir", trees, "/")[1]), 399)
         self.assertEqual(self.same("list", trees, b"/", b"/397", 2**40)[1], [b"398"])
 
-    def test_closed(self):
+    def test_closed(self) -> None:
         """A closed tree, on whichever thread."""
         trees = self.pair()
         for tree in trees:
@@ -203,7 +206,7 @@ class BothWays(unittest.TestCase):
         for tree in trees:
             self.assertRaises(atomfs.ClosedError, tree.stat, "/")
 
-    def test_long(self):
+    def test_long(self) -> None:
         """Bytes of which more threads run meanwhile, and files of several pieces."""
         trees = self.pair()
         data = bytes(k * 7 % 256 for k in range(3 * 2**20 + 5))
@@ -222,12 +225,12 @@ class BothWays(unittest.TestCase):
         self.assertEqual(self.same("write", trees, "/f", 10, memoryview(bytearray(100_000)))[1], 100_000)
         self.same_journals(trees)
 
-    def test_lengths(self):
+    def test_lengths(self) -> None:
         """How many nodes there are, without the text of the tree but behind a rename and calls by steps."""
         for tree in self.pair(100):
             texts = []
             plain = tree._told_tree
-            tree._told_tree = lambda: texts.append(1) or plain()
+            tree._told_tree = lambda: texts.append(1) or plain()  # type: ignore[assignment, func-returns-value]
             for name in ("/a", "/a/b", "/a", "/x/y"):
                 told(tree.mkdir, name)
             tree.write_bytes("/a/f", b"abc")
@@ -250,21 +253,21 @@ class BothWays(unittest.TestCase):
             tree.close()
             self.assertRaises(atomfs.ClosedError, len, tree)
 
-    def test_own_stat(self):
+    def test_own_stat(self) -> None:
         """What is made of a `stat` asks the one that a subclass has."""
 
         class Own(atomfs.Tree):
-            def stat(self, path):
+            def stat(self, path: Any) -> Stat:
                 asked.append(path)
                 return super().stat(path)
 
-        asked = []
+        asked: List[object] = []
         with Own() as tree:
             tree.mkdir("/a")
             self.assertEqual((tree.is_dir("/a"), tree.exists("/b"), tree.is_file("/a/c")), (True, False, False))
         self.assertEqual(asked, ["/a", "/b", "/a/c"])
 
-    def test_steps(self):
+    def test_steps(self) -> None:
         """Calls step by step, those that wait among them, and what is asked of a seat that has none."""
         trees = self.pair(50)
         for tree in trees:
@@ -284,7 +287,7 @@ class BothWays(unittest.TestCase):
             self.assertEqual(one, other, (what, name, given))
         self.same_journals(trees)
 
-    def test_waits(self):
+    def test_waits(self) -> None:
         """A call that waits for one of a seat keeps its seat, by which it goes on."""
         for tree in self.pair(50):
             tree.mkdir("/a")
@@ -299,7 +302,7 @@ class BothWays(unittest.TestCase):
             self.assertRaises(FileNotFoundError, raised.exception.seat.finish)
             self.assertEqual(tree.listdir("/"), ["b"])
 
-    def test_nothing_is_kept(self):
+    def test_nothing_is_kept(self) -> None:
         """No call keeps an object of Python beyond its answer, or its error."""
         tree = self.pair(64, journal=atomfs.NONE)[0]
         tree.write_bytes("/f", bytes(100_000))
@@ -309,14 +312,14 @@ class BothWays(unittest.TestCase):
             (name, args) for name, args in given if name != "write" and name != "truncate" or args[1] in range(HUGE)
         ]
 
-        def made():
+        def made() -> None:
             for name, args in given:
                 told(getattr(tree, name), *args)
             seat = tree.seat()
             told(seat.begin.mkdir, "/a")
             told(seat.finish)
 
-        def grown():
+        def grown() -> int:
             """By how many blocks of memory Python grows in twenty rounds."""
             before = sys.getallocatedblocks()
             for _ in range(20):
@@ -326,7 +329,7 @@ class BothWays(unittest.TestCase):
         # Python itself grows now and then, and one object that each round keeps is in all of them.
         self.assertLess(min(grown() for _ in range(6)), 20)
 
-    def test_copies(self):
+    def test_copies(self) -> None:
         """A tree that begins at another one's, or at a text, and makes calls on a handle of its own."""
         trees = self.pair()
         for tree in trees:
@@ -335,7 +338,7 @@ class BothWays(unittest.TestCase):
                 copy.write("/f", 1, b"x")
                 self.assertEqual((copy.read("/f"), tree.read("/f")), (b"axc", b"abc"))
 
-    def test_arguments(self):
+    def test_arguments(self) -> None:
         """The extension itself refuses what nothing in the package gives it."""
         tree = self.pair()[0]
         calls = tree._calls
@@ -376,14 +379,14 @@ class BothWays(unittest.TestCase):
 class Replaced(unittest.TestCase):
     """Where a patch finds the functions that it replaces."""
 
-    def module(self, name, **names):
+    def module(self, name: str, **names: Any) -> Any:
         made = types.ModuleType(name)
         vars(made).update(names)
         sys.modules[name] = made
-        self.addCleanup(sys.modules.pop, name, None)
+        self.addCleanup(sys.modules.pop, name, None)  # type: ignore[call-arg]
         return made
 
-    def test_places(self):
+    def test_places(self) -> None:
         """The places of objects in dictionaries, by both ways."""
         looked_for = [object() for _ in range(90)]
         spaces = [{f"name{number}": object() for number in range(200)} for _ in range(30)]
@@ -403,12 +406,12 @@ class Replaced(unittest.TestCase):
             for given in ((), ([],), ({}, {}), ([1], {}), ([], {"x": 1}), ([], dict.fromkeys(range(1, 2_050)))):
                 self.assertRaises(TypeError, places, *given)
 
-    def test_came_since(self):
+    def test_came_since(self) -> None:
         """Modules and names that came since the last patch, or during one; a module in the place of another; one that is gone."""
         tree = atomfs.Tree()
         self.addCleanup(tree.close)
         first = self.module("atomfs_came_first", stat=None)
-        there = lambda module: module.stat("/sandbox/f").st_size
+        there: Callable[[Any], Any] = lambda module: module.stat("/sandbox/f").st_size
         with atomfs.patch(tree, "/sandbox"):
             with open("/sandbox/f", "w") as file:
                 file.write("four")
@@ -424,15 +427,16 @@ class Replaced(unittest.TestCase):
             self.assertEqual(there(other), 4)
             self.assertRaises(FileNotFoundError, there, first)
 
-    def test_makes_names(self):
+    def test_makes_names(self) -> None:
         """A module that makes its names as they are asked for is left to do so."""
 
         class Lazy(types.ModuleType):
             @property
-            def __dict__(self):
+            def __dict__(self) -> Any:  # type: ignore[override]
                 raise RuntimeError("nothing is to be made")
 
-        sys.modules["atomfs_lazy"] = lazy = Lazy("atomfs_lazy")
+        lazy: Any = Lazy("atomfs_lazy")
+        sys.modules["atomfs_lazy"] = lazy
         self.addCleanup(sys.modules.pop, "atomfs_lazy")
         lazy.stat = os.stat
         with atomfs.Tree() as tree, atomfs.patch(tree, "/sandbox"):
@@ -443,11 +447,11 @@ class Replaced(unittest.TestCase):
 class Threads(unittest.TestCase):
     """What holds by the way that is taken here."""
 
-    def setUp(self):
+    def setUp(self) -> None:
         self.tree = atomfs.Tree()
         self.addCleanup(self.tree.close)
 
-    def test_lock(self):
+    def test_lock(self) -> None:
         """A call waits for a thread that has the lock of the tree, and other threads run meanwhile."""
         done = []
         caller = threading.Thread(target=lambda: done.append(self.tree.stat("/")))
@@ -459,12 +463,12 @@ class Threads(unittest.TestCase):
         self.assertEqual(done, [Stat(True, 0)])
 
     @unittest.skipUnless(HAS_EXTENSION, "ctypes keeps the lock of Python during each call of a tree")
-    def test_lets_go(self):
+    def test_lets_go(self) -> None:
         """The lock of Python is let go for a call on many bytes, and kept for one on few: who waits for it runs then, and not before."""
         data, go, ran = bytes(2**20), threading.Lock(), []
         self.tree.write_bytes("/f", data)
         go.acquire()
-        other = threading.Thread(target=lambda: (go.acquire(), ran.append(True)))
+        other = threading.Thread(target=lambda: (go.acquire(), ran.append(True)))  # type: ignore[func-returns-value]
         other.start()
         self.addCleanup(sys.setswitchinterval, sys.getswitchinterval())
         # Nobody is put off now who does not let the lock go.
@@ -480,12 +484,12 @@ class Threads(unittest.TestCase):
         self.assertEqual((kept, ran), (True, [True]))
         other.join()
 
-    def test_seats(self):
+    def test_seats(self) -> None:
         """Each thread has a seat of its own, whatever the calls."""
 
         together = threading.Barrier(4)
 
-        def work(name):
+        def work(name: str) -> None:
             self.tree.exists(f"/{name}")
             together.wait(60)
             # So many bytes that other threads run during the calls.
@@ -501,7 +505,7 @@ class Threads(unittest.TestCase):
         seats = {line.split(" ")[2] for line in self.tree.journal().splitlines() if line.startswith("begin ")}
         self.assertEqual((len(seats), self.tree.check(), self.tree.listdir("/")), (4, "lawful", list("abcd")))
 
-    def test_error_lets_go(self):
+    def test_error_lets_go(self) -> None:
         """A call that fails lets the lock go."""
         for path in ("/none", "none", None):
             self.assertRaises((OSError, TypeError), self.tree.stat, path)
@@ -510,7 +514,7 @@ class Threads(unittest.TestCase):
         other.join(10)
         self.assertEqual(self.tree.listdir("/"), ["a"])
 
-    def test_is_freed(self):
+    def test_is_freed(self) -> None:
         """A tree goes away with its last name, and no cycle keeps it."""
         import gc
         import weakref
@@ -527,20 +531,20 @@ class Threads(unittest.TestCase):
 class Chosen(unittest.TestCase):
     """Which way is taken."""
 
-    def said(self, code, **more):
+    def said(self, code: str, **more: str) -> str:
         ran = subprocess.run(
             [sys.executable, "-c", code], env=os.environ | more, capture_output=True, text=True, timeout=60
         )
         self.assertEqual((ran.returncode, ran.stderr), (0, ""))
         return ran.stdout.strip()
 
-    def test_pure(self):
+    def test_pure(self) -> None:
         """ATOMFS_PURE chooses ctypes."""
         code = "import atomfs; t = atomfs.Tree(); t.mkdir('/a'); print(atomfs.binding(), t.listdir('/'))"
         self.assertEqual(self.said(code, ATOMFS_PURE="1"), "ctypes: ATOMFS_PURE is set ['a']")
         self.assertIn(self.said(code, ATOMFS_PURE="0"), (f"extension ['a']", f"{atomfs.binding()} ['a']"))
 
-    def test_says_why(self):
+    def test_says_why(self) -> None:
         """Where there is no extension, `binding` says why."""
         if not HAS_EXTENSION:
             self.assertRegex(
@@ -549,14 +553,14 @@ class Chosen(unittest.TestCase):
         free = bool(sysconfig.get_config_var("Py_GIL_DISABLED"))
         self.assertFalse(HAS_EXTENSION and (free or sys.version_info < (3, 11)))
 
-    def test_interpreters(self):
+    def test_interpreters(self) -> None:
         """An interpreter below the first that shares its lock has what the first has. One with a lock of its own takes ctypes, and none
         where ctypes itself is refused there, as by 3.12."""
         try:
-            import _interpreters as interpreters
+            import _interpreters as interpreters  # type: ignore[import]
         except ImportError:
             try:
-                import _xxsubinterpreters as interpreters
+                import _xxsubinterpreters as interpreters  # type: ignore[import]
             except ImportError:
                 self.skipTest("this Python has no interpreters below the first")
         code = (
@@ -574,7 +578,7 @@ class Chosen(unittest.TestCase):
             self.assertIn("_ctypes does not support loading in subinterpreters" if came else "", str(came))
 
     @staticmethod
-    def run_in(interpreters, code, *given, **named):
+    def run_in(interpreters: Any, code: str, *given: Any, **named: Any) -> object:
         """What goes wrong with a text in an interpreter of its own."""
         interpreter = interpreters.create(*given, **named)
         try:

@@ -18,7 +18,7 @@ class Checked(AtomFS):
 
     verdict = None
 
-    def close(self):
+    def close(self) -> None:
         if not self.isclosed():
             self.verdict = self.atom_tree.check()
         super().close()
@@ -27,10 +27,10 @@ class Checked(AtomFS):
 class Conformance(FSTestCases, unittest.TestCase):
     """Each test of the suite passes, and the journal of its tree is lawful."""
 
-    def make_fs(self):
+    def make_fs(self) -> Checked:
         return Checked()
 
-    def destroy_fs(self, fs):
+    def destroy_fs(self, fs: Checked) -> None:
         fs.close()
         self.assertEqual(fs.verdict, "lawful")
 
@@ -44,7 +44,7 @@ class OfTheSecondLimits(FSTestCases, unittest.TestCase):
 class LeftOut(unittest.TestCase):
     """A test that is left out would fail, and for its reason: a file becomes longer than the tree lets it."""
 
-    def test_each(self):
+    def test_each(self) -> None:
         for name in LEFT_OUT:
             with self.subTest(name), self.assertRaises((OSError, errors.BulkCopyFailed)) as raised:
                 suite = type(

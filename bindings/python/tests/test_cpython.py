@@ -9,7 +9,7 @@ import cpython
     importlib.util.find_spec("test.test_os"), f"CPython's tests are not there: apt-get install {cpython.PACKAGE}"
 )
 class CPython(unittest.TestCase):
-    def test_modules(self):
+    def test_modules(self) -> None:
         """Each test that passes on the disk passes in a tree, or has a reason; nothing comes to the disk, and each journal is lawful."""
         sums = [0, 0]
         for name in cpython.QUICK:
@@ -20,7 +20,7 @@ class CPython(unittest.TestCase):
                 sums = [sums[0] + on_disk, sums[1] + in_tree]
         self.assertGreater(sums[1], 0.95 * sums[0])
 
-    def test_reasons(self):
+    def test_reasons(self) -> None:
         """A reason is for what it names alone."""
         words = "PermissionError: os.link: a tree has no hard links"
         for name, told, due in (

@@ -17,6 +17,7 @@ import unittest
 import unittest.mock
 import warnings
 import weakref
+from typing import Any, Callable, Dict, Iterator, List, Tuple
 
 import atomfs
 from atomfs import _calls, _descriptors, _door, _metadata, _sandbox
@@ -26,18 +27,20 @@ from atomfs._places import Place
 DRAWN = int(os.environ.get("ATOMFS_DRAWN", "3000"))
 AT = "/sandbox_of_door"
 HAS_EXTENSION = atomfs.binding() == "extension"
+# A function that a row calls.
+Function = Callable[..., Any]
 
 
 class Odd:
     """A path of a type of its own, which may raise."""
 
-    def __init__(self, path):
+    def __init__(self, path: Any) -> None:
         self.path = path
 
-    def __repr__(self):
+    def __repr__(self) -> str:
         return f"Odd({self.path!r})"
 
-    def __fspath__(self):
+    def __fspath__(self) -> Any:
         if self.path is None:
             raise LookupError("this path cannot be had")
         return self.path
@@ -47,22 +50,23 @@ class Text(str):
     """A string of a type of its own."""
 
 
-def in_python(stack):
+def in_python(stack: contextlib.ExitStack) -> None:
     """Lets a patch that begins within be made in Python alone."""
-    for module, names in (
+    ways: Tuple[Tuple[Any, Dict[str, Any]], ...] = (
         (_calls, {"extension": None}),
         (_metadata, {"_kept": _metadata._kept_in_python}),
         (_door, {"extension": None}),
         (_descriptors, {"extension": None}),
         *((module, {"Node": _descriptors.PureNode}) for module in (_descriptors, _sandbox)),
         *((module, {"Description": _descriptors.PureDescription}) for module in (_descriptors, _sandbox)),
-    ):
+    )
+    for module, names in ways:
         for name, value in names.items():
             stack.enter_context(unittest.mock.patch.object(module, name, value))
 
 
 @contextlib.contextmanager
-def patched(way, at=AT, **words):
+def patched(way: str, at: str = AT, **words: Any) -> Iterator[atomfs.Tree]:
     """A tree and a patch, by one way."""
     with contextlib.ExitStack() as stack:
         if way == "python":
@@ -75,9 +79,9 @@ def patched(way, at=AT, **words):
         yield tree
 
 
-def paths(at, folder):
+def paths(at: str, folder: str) -> List[Any]:
     """Paths of all shapes: of a tree at a directory, beside it, and on the disk."""
-    below = (
+    below: Tuple[str, ...] = (
         "",
         "/",
         "/f",
@@ -99,7 +103,7 @@ def paths(at, folder):
     # Of the disk nothing but what is below the folder is named, also by a path from the tree on.
     texts += [f"/..{at}/f", f"//{at[1:]}/f", f"{folder}/f", f"{folder}/in{at}", f"{folder}/in/..{at}/f", "", folder]
     texts += ["f", "d/g", "d/../f", at[1:]]
-    kinds = [
+    kinds: List[Function] = [
         os.fsencode,
         Odd,
         Text,
@@ -111,9 +115,9 @@ def paths(at, folder):
     return [*texts, *some, Odd(None), Odd(3), None, 1.5, ["x"], 10**6]
 
 
-def calls():
+def calls() -> Tuple[List[Function], List[Function]]:
     """Calls of one path, of two, and of descriptors, which are drawn."""
-    one = [
+    one: List[Any] = [
         os.stat,
         os.lstat,
         os.listdir,
@@ -139,9 +143,9 @@ def calls():
         lambda path: os.utime(path, (1, 2)),
         lambda path: os.mkdir(path, 0o700),
         lambda path: os.mknod(path),
-        lambda path: os.stat(path, 1),
+        lambda path: os.stat(path, 1),  # type: ignore[misc]
     ]
-    one += [lambda path: sorted(entry.name for entry in os.scandir(path)), lambda path: os.stat(path, dir_fd=3.5)]
+    one += [lambda path: sorted(entry.name for entry in os.scandir(path)), lambda path: os.stat(path, dir_fd=3.5)]  # type: ignore[arg-type]
     one += [opened(mode) for mode in ("r", "rb", "wb", "ab", "xb", "r+b", "w+", "a+b", "rw", "b", 3, "rbt")]
     one += [lambda path: descriptors(path, os.O_RDONLY), lambda path: descriptors(path, os.O_RDWR | os.O_APPEND)]
     one += [
@@ -152,7 +156,7 @@ def calls():
         lambda path: descriptors(path, os.O_RDONLY | os.O_DIRECTORY),
         lambda path: descriptors(path, os.O_WRONLY | os.O_TRUNC),
     ]
-    two = [
+    two: List[Any] = [
         os.rename,
         os.replace,
         os.link,
@@ -162,8 +166,8 @@ def calls():
     return one, two
 
 
-def opened(mode):
-    def call(path):
+def opened(mode: Any) -> Function:
+    def call(path: Any) -> List[object]:
         with open(path, mode) as file:
             told = [
                 file.read(3) if file.readable() else None,
@@ -174,16 +178,16 @@ def opened(mode):
     return call
 
 
-def descriptors(path, flags):
+def descriptors(path: Any, flags: int) -> List[object]:
     """What a descriptor answers to each call: its number is of the process, and is left out."""
     number = os.open(path, flags)
     answers = []
-    for call in (
+    each: Tuple[Function, ...] = (
         lambda: os.fstat(number),
         lambda: os.read(number, 4),
         lambda: os.write(number, bytearray(b"xyz")),
-        lambda: os.write(number, "x"),
-        lambda: os.write(number, [1, 2]),
+        lambda: os.write(number, "x"),  # type: ignore[arg-type]
+        lambda: os.write(number, [1, 2]),  # type: ignore[arg-type]
         lambda: os.write(number, memoryview(b"abcdef")[::2]),
         lambda: os.lseek(number, 2, os.SEEK_SET),
         lambda: os.lseek(number, -1, os.SEEK_CUR),
@@ -196,12 +200,13 @@ def descriptors(path, flags):
         lambda: os.close(os.dup(number)),
         lambda: os.close(number),
         lambda: os.close(number),
-    ):
+    )
+    for call in each:
         answers.append(outcome(call))
     return answers
 
 
-def outcome(call, *given):
+def outcome(call: Function, *given: Any) -> Any:
     """What a call answers, or its error in full."""
     try:
         answer = call(*given)
@@ -214,7 +219,7 @@ def outcome(call, *given):
     return answer
 
 
-def opened_by(tree):
+def opened_by(tree: atomfs.Tree) -> List[Any]:
     """The descriptors of patches that a tree has still."""
     return [
         one._of
@@ -226,14 +231,16 @@ def opened_by(tree):
 class BothWays(unittest.TestCase):
     """The same calls by both ways."""
 
-    def setUp(self):
+    def setUp(self) -> None:
         if not HAS_EXTENSION:
             self.skipTest(atomfs.binding())
         self.folder = os.path.join(tempfile.mkdtemp(), "of_disk")
         self.addCleanup(shutil.rmtree, os.path.dirname(self.folder))
         self.addCleanup(os.chdir, os.getcwd())
 
-    def both(self, played, begin=lambda: None, **words):
+    def both(
+        self, played: Callable[[atomfs.Tree], List[Any]], begin: Callable[[], object] = lambda: None, **words: Any
+    ) -> List[Any]:
         """What both ways answer, with their journals and trees, is the same."""
         found = []
         for way in ("extension", "python"):
@@ -254,11 +261,11 @@ class BothWays(unittest.TestCase):
         self.assertEqual(found[0], found[1])
         return found[0][0]
 
-    def drawn(self, seed):
+    def drawn(self, seed: int) -> List[Any]:
         at, (one, two) = f"{self.folder}/sandbox", calls()
         given = paths(at, self.folder)
 
-        def played(tree):
+        def played(tree: atomfs.Tree) -> List[Any]:
             draw, answers = random.Random(seed), []
             for _ in range(DRAWN):
                 if draw.random() < 0.02:
@@ -269,12 +276,12 @@ class BothWays(unittest.TestCase):
                 for name in ("f", "d"):
                     # Most of it stays there.
                     if draw.random() < 0.3:
-                        outcome((opened("wb") if name == "f" else os.mkdir), f"{at}/{name}")
+                        outcome((opened("wb") if name == "f" else os.mkdir), f"{at}/{name}")  # type: ignore[arg-type]
             return answers
 
         return self.both(played, at=at)
 
-    def test_drawn(self):
+    def test_drawn(self) -> None:
         """Drawn calls with paths of all shapes."""
         answers = self.drawn(1)
         kinds = {told[0] for _, told in answers if isinstance(told, tuple) and isinstance(told[0], str)}
@@ -284,10 +291,10 @@ class BothWays(unittest.TestCase):
         )
         self.assertGreater(sum(not isinstance(told, tuple) for _, told in answers), DRAWN // 10)
 
-    def test_link(self):
+    def test_link(self) -> None:
         """With a link in the tree no path is plain: it is followed."""
 
-        def played(tree):
+        def played(tree: atomfs.Tree) -> Iterator[object]:
             os.symlink("d", f"{AT}/l")
             yield outcome(os.mkdir, f"{AT}/l/g")
             yield outcome(os.listdir, f"{AT}/d")
@@ -298,15 +305,15 @@ class BothWays(unittest.TestCase):
         answers = self.both(lambda tree: list(played(tree)))
         self.assertEqual(answers, [None, ["g"], None, None, ["d", "f", "h"]])
 
-    def test_there(self):
+    def test_there(self) -> None:
         """A directory of the disk stands where the tree does: links of the disk may lead into the tree, so that each path is walked."""
         at = f"{self.folder}/tree"
 
-        def begin():
+        def begin() -> None:
             os.mkdir(at)
             os.symlink(at, f"{self.folder}/in/link")
 
-        def played(tree):
+        def played(tree: atomfs.Tree) -> Iterator[object]:
             yield from (outcome(os.listdir, path) for path in (f"{self.folder}/in/link", at, f"{self.folder}/in"))
             # Also by a path that does not name the tree.
             yield outcome(os.mkdir, f"{self.folder}/in/link/g")
@@ -317,10 +324,10 @@ class BothWays(unittest.TestCase):
         self.assertEqual(answers[:3], [["d", "f"], ["d", "f"], ["link"]])
         self.assertEqual((answers[3:5], answers[5][1]), ([None, None], ["d", "f", "h"]))
 
-    def test_removed(self):
+    def test_removed(self) -> None:
         """An open file that is removed, renamed and replaced; one that another descriptor has; a closed one."""
 
-        def played(tree):
+        def played(tree: atomfs.Tree) -> Iterator[object]:
             with open(f"{AT}/f", "r+b", buffering=0) as file, open(f"{AT}/f", "rb", buffering=0) as other:
                 yield outcome(file.write, b"new ")
                 os.rename(f"{AT}/f", f"{AT}/d/f")
@@ -335,10 +342,10 @@ class BothWays(unittest.TestCase):
         answers = self.both(lambda tree: list(played(tree)))
         self.assertEqual(answers[2:6], [b"new ", 4, (0, b"new moregone", b"moregone"), answers[5]])
 
-    def test_full(self):
+    def test_full(self) -> None:
         """What a limit of the tree refuses has the path that was given."""
 
-        def played(tree):
+        def played(tree: atomfs.Tree) -> List[Any]:
             answers = [outcome(os.mkdir, pathlib.Path(f"{AT}/{number}")) for number in range(5)]
             with open(f"{AT}/f", "r+b", buffering=0) as file:
                 file.seek(tree.limits.file_bytes)
@@ -352,13 +359,13 @@ class BothWays(unittest.TestCase):
         self.assertEqual(answers[4][2], str((errno.ENOSPC, f"{AT}/4", "None")))
         self.assertEqual((answers[5][2][:4], answers[6][0], answers[7]), (f"({errno.EFBIG},", "TypeError", 0))
 
-    def test_own_tree(self):
+    def test_own_tree(self) -> None:
         """A class that is made of `Tree` has its own calls asked."""
 
         class Own(atomfs.Tree):
             asked = 0
 
-            def stat(self, path):
+            def stat(self, path: Any) -> atomfs.Stat:
                 self.asked += 1
                 return super().stat(path)
 
@@ -378,7 +385,7 @@ class BothWays(unittest.TestCase):
 class Functions(unittest.TestCase):
     """What the functions of a patch are besides, by the way that is taken here."""
 
-    def test_as_functions(self):
+    def test_as_functions(self) -> None:
         """Their words, their copies and pickles, and that a class which has one binds it to no instance."""
 
         class Has:
@@ -390,14 +397,14 @@ class Functions(unittest.TestCase):
             class Keeps:
                 stat = os.stat
 
-            self.assertEqual((repr(os.stat), os.stat.__name__, os.stat.__doc__[:7]), (words, "stat", "Perform"))
+            self.assertEqual((repr(os.stat), os.stat.__name__, os.stat.__doc__[:7]), (words, "stat", "Perform"))  # type: ignore[index]
             self.assertEqual(inspect.signature(os.stat), inspect.signature(Has.stat))
-            self.assertEqual(Keeps().stat(AT).st_mode, os.stat(AT).st_mode)
+            self.assertEqual(Keeps().stat(AT).st_mode, os.stat(AT).st_mode)  # type: ignore[arg-type, misc]
             for function in (os.stat, os.rename, os.close, open):
                 self.assertIs(copy.deepcopy({"it": function})["it"], function)
                 self.assertIs(pickle.loads(pickle.dumps(function)), function)
                 self.assertIs(weakref.ref(function)(), function)
-            os.stat.more = 3
+            os.stat.more = 3  # type: ignore[attr-defined]
             self.assertEqual(vars(os.stat)["more"], 3)
             kept = os.stat
         self.assertFalse(hasattr(os.stat, "more"))
@@ -406,7 +413,7 @@ class Functions(unittest.TestCase):
         self.assertRaises(FileNotFoundError, kept, AT)
         self.assertTrue(os.path.samestat(kept("/"), os.stat("/")))
 
-    def test_warnings(self):
+    def test_warnings(self) -> None:
         """A warning names the line of the caller."""
         for way in ("extension", "python"):
             with patched(way), warnings.catch_warnings(record=True) as told:
@@ -419,7 +426,7 @@ class Functions(unittest.TestCase):
             wanted = [RuntimeWarning] * 2 + [DeprecationWarning] * 2
             self.assertEqual(kinds, [(kind, __file__) for kind in wanted], way)
 
-    def test_is_freed(self):
+    def test_is_freed(self) -> None:
         """A patch that has ended goes away with its functions, descriptors and tree."""
 
         class Seen(atomfs.Tree):
@@ -430,18 +437,18 @@ class Functions(unittest.TestCase):
             file = open(f"{AT}/f", "wb")
             file.write(b"x")
             file.close()
-        seen = weakref.ref(tree), weakref.ref(patch)
+        seen: Tuple[Any, ...] = weakref.ref(tree), weakref.ref(patch)
         tree.close()
         del tree, patch, file
         gc.collect()
         self.assertEqual([one() for one in seen], [None, None])
 
-    def test_threads(self):
+    def test_threads(self) -> None:
         """Threads open, write, read and close at once."""
         with atomfs.Tree() as tree, atomfs.patch(tree, AT):
             faults = []
 
-            def work(name):
+            def work(name: str) -> None:
                 try:
                     for number in range(60):
                         with open(f"{AT}/{name}", "wb") as file:
@@ -459,7 +466,7 @@ class Functions(unittest.TestCase):
             self.assertEqual((faults, tree.check(), sorted(os.listdir(AT))), ([], "lawful", ["a", "b", "c", "d"]))
 
     @unittest.skipUnless(HAS_EXTENSION, "the types of the extension")
-    def test_types(self):
+    def test_types(self) -> None:
         """The types of the extension refuse what is not of them."""
         of_c = _calls.extension
         self.assertRaises(TypeError, of_c.Door)
@@ -482,8 +489,8 @@ class Functions(unittest.TestCase):
             self.assertRaises(TypeError, of_c.Files, *given)
         with atomfs.Tree() as tree:
             files = of_c.Files(tree, {3: "no description"}, {}, None, None, of_c.Node, of_c.Description)
-            for call, given in ((files.read_into, 1), (files.write, 3), (files.seek, 2), (files.open_there, 0)):
-                self.assertRaises(TypeError, call, *range(given))
+            for call, count in ((files.read_into, 1), (files.write, 3), (files.seek, 2), (files.open_there, 0)):
+                self.assertRaises(TypeError, call, *range(count))
             for call in (
                 files.close,
                 lambda number: files.read_into(number, bytearray(3)),
@@ -494,13 +501,13 @@ class Functions(unittest.TestCase):
             self.assertIsNone(files.open_there("/", os.O_CREAT))
 
     @unittest.skipUnless(HAS_EXTENSION, "the extension")
-    def test_kept(self):
+    def test_kept(self) -> None:
         """What is kept of a node is found by both ways."""
         with atomfs.Tree() as tree, atomfs.patch(tree, AT):
             os.makedirs(f"{AT}/a/ü")
             with open(f"{AT}/a/ü/\udcff", "w"), open(f"{AT}/f", "w"):
                 pass
-            root = tree._metadata.root
+            root: Any = tree._metadata.root  # type: ignore[union-attr]
         paths = (
             "",
             "/",

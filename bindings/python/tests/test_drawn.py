@@ -1,4 +1,6 @@
 """Drawn calls of `os` and `open`, each on the disk and in a tree: both answer and raise the same, and what is below is the same at the end."""
+# Several functions answer nothing, and that is compared too.
+# mypy: disable-error-code="func-returns-value"
 import errno
 import fcntl
 import os
@@ -6,6 +8,7 @@ import random
 import stat
 import tempfile
 import unittest
+from typing import Any, Dict, List, Sequence, Tuple
 
 import atomfs
 from test_patch import AT, OfPatch
@@ -15,8 +18,13 @@ NAMES = "a", "b", "c"
 ABOVE = "u/v/w/x"
 RUNS, CALLS = 60, 60
 
+# The name of a function, and its words.
+Call = Tuple[Any, ...]
+# What calls answered, and what is below the place then.
+Outcome = Tuple[List[object], Dict[str, object]]
 
-def a_path(draw):
+
+def a_path(draw: random.Random) -> str:
     """A relative path of a few names, some with dots or a slash at the end."""
     names = [draw.choice(NAMES) for _ in range(draw.choice((1, 1, 1, 2, 2, 3)))]
     if draw.random() < 0.08:
@@ -24,7 +32,7 @@ def a_path(draw):
     return "/".join(names) + ("/" if draw.random() < 0.06 else "")
 
 
-def a_call(draw):
+def a_call(draw: random.Random) -> Call:
     """A function and its words, without the place."""
     path, other = a_path(draw), a_path(draw)
     mode = draw.choice((0o700, 0o750, 0o777, 0o1777, 0o640))
@@ -63,7 +71,7 @@ FLAGS = (
 )
 
 
-def of_stat(found):
+def of_stat(found: os.stat_result) -> Tuple[object, ...]:
     # Reads leave the time of access of a tree, and the length of a link depends on the place.
     size = found.st_size if stat.S_ISREG(found.st_mode) else None
     return (
@@ -75,7 +83,7 @@ def of_stat(found):
     )
 
 
-def scanned(path):
+def scanned(path: str) -> List[Tuple[object, ...]]:
     with os.scandir(path) as entries:
         return sorted(
             (one.name, one.is_dir(), one.is_file(), one.is_symlink(), one.is_dir(follow_symlinks=False))
@@ -83,11 +91,11 @@ def scanned(path):
         )
 
 
-def answer(at, call):
+def answer(at: str, call: Call) -> object:
     """What a call answers, or its error, with the place left out."""
     name, *words = call
 
-    def placed(path):
+    def placed(path: str) -> str:
         # Where the process works moves, so some paths begin at the place, and some where it is.
         return path if len(path) % 3 == 0 and name != "symlink" else f"{at}/{path}"
 
@@ -116,17 +124,17 @@ def answer(at, call):
             return os.path.realpath(paths[0]).replace(at[: -len(ABOVE)], "@")
         if name == "rename":
             return os.rename(placed(words[0]), placed(words[1]))
-        found = getattr(os, name)(*paths)
-        return found.replace(at[: -len(ABOVE)], "@") if isinstance(found, str) else found
+        came: object = getattr(os, name)(*paths)
+        return came.replace(at[: -len(ABOVE)], "@") if isinstance(came, str) else came
     except OSError as error:
         return errno.errorcode.get(error.errno), *(
             str(path).replace(at, "@") for path in (error.filename, error.filename2)
         )
 
 
-def below(at):
+def below(at: str) -> Dict[str, object]:
     """All that is below a place, without following links."""
-    found = {}
+    found: Dict[str, object] = {}
     for folder, folders, files in os.walk(at):
         for name in (*folders, *files):
             path = os.path.join(folder, name)
@@ -141,7 +149,7 @@ def below(at):
     return found
 
 
-def outcome(at, calls):
+def outcome(at: str, calls: Sequence[Call]) -> Outcome:
     at = f"{at}/{ABOVE}"
     os.makedirs(at)
     os.chdir(at)
@@ -150,7 +158,7 @@ def outcome(at, calls):
     return answers, below(at)
 
 
-def a_call_of_descriptors(draw):
+def a_call_of_descriptors(draw: random.Random) -> Call:
     """A function on one of three descriptors, or one that opens it or changes what it is of."""
     one, path, other = draw.randrange(3), draw.choice("ab"), draw.choice("abc")
     size = draw.randrange(12)
@@ -190,14 +198,15 @@ def a_call_of_descriptors(draw):
 class Opened:
     """Three descriptors at most, by their places, and what calls on them answer."""
 
-    def __init__(self, at):
-        self.at, self.of = at, {}
+    def __init__(self, at: str) -> None:
+        self.at = at
+        self.of: Dict[int, int] = {}
 
-    def close(self):
+    def close(self) -> None:
         for number in self.of.values():
             os.close(number)
 
-    def answer(self, call):
+    def answer(self, call: Call) -> object:
         name, one, *words = call
         try:
             if name in ("rename", "unlink", "mkdir", "rmdir", "truncate", "listdir"):
@@ -216,7 +225,7 @@ class Opened:
         except OSError as error:
             return errno.errorcode.get(error.errno)
 
-    def on(self, name, one, number, words):
+    def on(self, name: str, one: int, number: int, words: Sequence[Any]) -> object:
         if name == "close":
             return os.close(self.of.pop(one))
         if name == "dup":
@@ -247,7 +256,7 @@ class Opened:
 
 
 class Drawn(OfPatch):
-    def test_descriptors(self):
+    def test_descriptors(self) -> None:
         """Calls on descriptors, while what they are of is renamed, replaced and removed."""
         for seed in range(RUNS):
             draw = random.Random(seed)
@@ -264,7 +273,7 @@ class Drawn(OfPatch):
                     self.assertEqual(other, one, f"call {number} of seed {seed}: {call}, after {calls[:number]}")
                 self.assertEqual(both[1][1], both[0][1])
 
-    def test_runs(self):
+    def test_runs(self) -> None:
         before = os.getcwd()
         self.addCleanup(os.chdir, before)
         for seed in range(RUNS):

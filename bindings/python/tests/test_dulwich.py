@@ -1,10 +1,13 @@
 """Git in a tree, by a library that knows nothing of it: dulwich makes, commits, clones, packs and pushes, and git itself takes what comes out."""
+# dulwich has few types.
+# mypy: disable-error-code="no-untyped-call"
 import io
 import os
 import shutil
 import subprocess
 import tempfile
 import unittest
+from typing import Tuple
 
 import atomfs
 from test_patch import AT, OfPatch, written
@@ -13,13 +16,13 @@ try:
     from dulwich import porcelain
     from dulwich.repo import Repo
 except ImportError:  # Debian's python3-dulwich
-    porcelain = None
+    porcelain = None  # type: ignore[assignment]
 
 COMMITS = 12
 WHO = b"A <a@example.org>"
 
 
-def work(at):
+def work(at: str) -> Tuple[object, ...]:
     """A repository with branches of files, its clone, what was pushed back, and the head of each."""
     repository = porcelain.init(f"{at}/one")
     for number in range(COMMITS):
@@ -48,7 +51,7 @@ def work(at):
 
 @unittest.skipIf(porcelain is None, "dulwich is not there: apt-get install python3-dulwich")
 class Dulwich(OfPatch):
-    def test_work(self):
+    def test_work(self) -> None:
         with tempfile.TemporaryDirectory() as at:
             wanted = work(at)
         with atomfs.patch(self.tree, at=AT):

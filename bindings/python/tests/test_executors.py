@@ -6,6 +6,7 @@ import os
 import pathlib
 import sys
 import tempfile
+import typing
 import unittest
 import zlib
 from unittest import mock
@@ -17,27 +18,27 @@ from atomfs import ScheduleError, explore
 DIES = "ATOMFS_TEST_DIES"
 
 
-def add(tree):
+def add(tree: atomfs.Tree) -> None:
     number = int(tree.read("/n"))
     tree.write("/n", 0, b"%d" % (number + 1))
 
 
-def zero(tree):
+def zero(tree: atomfs.Tree) -> None:
     tree.mknod("/n")
     tree.write("/n", 0, b"0")
 
 
-def add_twice(tree):
+def add_twice(tree: atomfs.Tree) -> None:
     add(tree)
     add(tree)
 
 
-def seldom(tree, replies):
+def seldom(tree: atomfs.Tree, replies: typing.Dict[str, object]) -> None:
     """One run of some 300 fails, by what its calls were."""
     assert zlib.crc32(tree.journal().encode()) % 300
 
 
-def passes(tree, replies):
+def passes(tree: atomfs.Tree, replies: typing.Dict[str, object]) -> None:
     """A worker that is to die does so, once, or each time."""
     place = os.environ.get(DIES)
     if place and tree.read("/n") == b"2":
@@ -52,12 +53,12 @@ THREADS = {"a": add_twice, "b": add_twice}
 
 
 class Processes(unittest.TestCase):
-    def first(self, **named):
+    def first(self, **named: typing.Any) -> ScheduleError:
         with self.assertRaises(ScheduleError) as raised:
             explore(THREADS, seldom, runs=3_000, before=zero, draws="uniform", **named)
         return raised.exception
 
-    def test_first_seed(self):
+    def test_first_seed(self) -> None:
         """The first seed that fails is the one that one process finds, and so is all that is told."""
         alone = self.first()
         with concurrent.futures.ProcessPoolExecutor(3) as executor:
@@ -66,23 +67,23 @@ class Processes(unittest.TestCase):
         self.assertGreater(by.seed, 100)
         self.assertEqual(by.replay().events, alone.events)
 
-    def test_seen(self):
+    def test_seen(self) -> None:
         """Where all pass, what was seen is the same too; lists of calls are run as well."""
         lists = {"a": ["mkdir /a", "rmdir /a"], "b": ["mkdir /a"]}
         with concurrent.futures.ProcessPoolExecutor(2) as executor:
-            for threads, named in ((THREADS, {"before": zero}), (lists, {})):
-                seen = [
-                    explore(threads, passes if named else _any, runs=450, **named, **by)
-                    for by in ({}, {"executor": executor})
-                ]
+            rows: typing.Iterable[typing.Tuple[typing.Any, typing.Dict[str, typing.Any]]]
+            rows = [(THREADS, {"before": zero}), (lists, {})]
+            ways: typing.Tuple[typing.Dict[str, typing.Any], ...] = {}, {"executor": executor}
+            for threads, named in rows:
+                seen = [explore(threads, passes if named else _any, runs=450, **named, **by) for by in ways]
                 self.assertEqual(seen[0].summary, seen[1].summary)
 
-    def test_threads(self):
+    def test_threads(self) -> None:
         """The workers of a thread pool take turns, since a process explores one thing at a time."""
         with concurrent.futures.ThreadPoolExecutor(2) as executor:
             self.assertEqual(explore(THREADS, passes, runs=250, before=zero, executor=executor), 250)
 
-    def test_lost_worker(self):
+    def test_lost_worker(self) -> None:
         """The range of a worker that dies is done again."""
         with tempfile.TemporaryDirectory() as folder:
             with mock.patch.dict(os.environ, {DIES: f"{folder}/died"}):
@@ -91,25 +92,25 @@ class Processes(unittest.TestCase):
                 self.assertTrue(os.path.exists(f"{folder}/died"))
         self.assertEqual(seen.summary, explore(THREADS, passes, runs=500, before=zero).summary)
 
-    def test_lost_for_good(self):
+    def test_lost_for_good(self) -> None:
         """A range in which each worker dies is named."""
         with mock.patch.dict(os.environ, {DIES: "always"}):
             with concurrent.futures.ProcessPoolExecutor(1) as executor:
                 with self.assertRaisesRegex(RuntimeError, "a worker died 3 times in the runs of the seeds 1 to 100"):
                     explore(THREADS, passes, runs=500, before=zero, executor=executor)
 
-    def test_errors(self):
+    def test_errors(self) -> None:
         """What is raised at a worker besides a failing run is raised here."""
         with concurrent.futures.ProcessPoolExecutor(1) as executor:
             with self.assertRaises(FileNotFoundError):
                 explore(THREADS, passes, runs=10, before=_bad, executor=executor)
 
 
-def _any(tree, replies):
+def _any(tree: atomfs.Tree, replies: typing.Dict[str, object]) -> None:
     pass
 
 
-def _bad(tree):
+def _bad(tree: atomfs.Tree) -> None:
     tree.rmdir("/none")
 
 
@@ -117,9 +118,9 @@ def _bad(tree):
     importlib.util.find_spec("distributed"), "there is no distributed: apt-get install python3-distributed"
 )
 class Dask(unittest.TestCase):
-    def test_cluster(self):
+    def test_cluster(self) -> None:
         """The workers of a local cluster find the same first seed."""
-        import distributed
+        import distributed  # type: ignore[import]
 
         words = {"n_workers": 2, "threads_per_worker": 1, "dashboard_address": None}
         with self.assertRaises(ScheduleError) as alone:
@@ -138,16 +139,16 @@ class Dask(unittest.TestCase):
 class Terminal(io.StringIO):
     """A standard error that is a terminal, or is none."""
 
-    def __init__(self, is_one):
+    def __init__(self, is_one: bool) -> None:
         super().__init__()
         self._is_one = is_one
 
-    def isatty(self):
+    def isatty(self) -> bool:
         return self._is_one
 
 
 class Bars(unittest.TestCase):
-    def shown(self, is_one, modules):
+    def shown(self, is_one: bool, modules: typing.Any) -> str:
         """What comes to standard error."""
         from atomfs._explore import bar
 
@@ -158,7 +159,7 @@ class Bars(unittest.TestCase):
             explore(THREADS, _any, runs=200, before=zero)
         return file.getvalue()
 
-    def test_line(self):
+    def test_line(self) -> None:
         """Without tqdm a line, which goes away at the end; nothing where there is no terminal."""
         line = self.shown(True, {"tqdm": None})
         self.assertRegex(line, r"^\r[1-9]\d* of 200 runs, \d+ %")
@@ -166,7 +167,7 @@ class Bars(unittest.TestCase):
         self.assertEqual(self.shown(False, {"tqdm": None}), "")
 
     @unittest.skipUnless(importlib.util.find_spec("tqdm"), "there is no tqdm: apt-get install python3-tqdm")
-    def test_tqdm(self):
+    def test_tqdm(self) -> None:
         self.assertRegex(self.shown(True, {}), r"\| \d+/200 \[")
         self.assertEqual(self.shown(False, {}), "")
 

@@ -5,12 +5,16 @@ import pathlib
 import subprocess
 import sys
 import tempfile
+import typing
 import unittest
 
 import atomfs
 from atomfs import Limits, ScheduleError, Stat, explore
 
-MOVED = {"m": ["mkdir /a/d/x", ("stat", "/a/d/x")], "r": [("rename", "/a", "/b")]}
+# The calls of threads, each a line or the words of it.
+Threads = typing.Dict[str, typing.Sequence[typing.Union[str, typing.Tuple[typing.Any, ...]]]]
+
+MOVED: Threads = {"m": ["mkdir /a/d/x", ("stat", "/a/d/x")], "r": [("rename", "/a", "/b")]}
 BEFORE = ["mkdir /a", "mkdir /a/d"]
 # Each call as a line and as what is the same.
 SAME = (
@@ -31,21 +35,21 @@ SAME = (
 REPLIES = [None, None, 3, b"\0hi\n", None, Stat(False, 3), ["\udcff %"], None, None, 0, None, None, Stat(True, 0)]
 
 
-def failed(case, *given, **named):
+def failed(case: unittest.TestCase, threads: Threads, **named: typing.Any) -> ScheduleError:
     """The error of a check that fails behind the first run."""
     with case.assertRaises(ScheduleError) as raised:
-        explore(*given, lambda tree, replies: False, runs=1, **named)
+        explore(threads, lambda tree, replies: False, runs=1, **named)
     return raised.exception
 
 
 class Runs(unittest.TestCase):
-    def seen(self, threads, **named):
+    def seen(self, threads: Threads, **named: typing.Any) -> typing.List[typing.Tuple[str, str]]:
         """The replies and the journal of each run."""
-        found = []
+        found: typing.List[typing.Tuple[str, str]] = []
         explore(threads, lambda tree, replies: found.append((repr(replies), tree.journal())), **named)
         return found
 
-    def test_seeds(self):
+    def test_seeds(self) -> None:
         """The same seed gives the same runs, and a later run is the first one of its own seed."""
         first = self.seen(MOVED, runs=50, seed=7, before=BEFORE)
         self.assertEqual(first, self.seen(MOVED, runs=50, seed=7, before=BEFORE))
@@ -54,7 +58,7 @@ class Runs(unittest.TestCase):
         self.assertGreater(len(set(first)), 10)
         self.assertEqual({atomfs.check(journal) for _, journal in first}, {"lawful"})
 
-    def test_each_outcome(self):
+    def test_each_outcome(self) -> None:
         """Either call is the first, or the rename helps the mkdir that is half-way."""
         found = self.seen(MOVED, runs=300, before=BEFORE)
         self.assertEqual(len({replies for replies, _ in found}), 3)
@@ -65,7 +69,7 @@ class Runs(unittest.TestCase):
         ]
         self.assertTrue(helped)
 
-    def test_replies(self):
+    def test_replies(self) -> None:
         """Each call, as a line and as words, with its reply; of one that failed, its error."""
         for at in (0, 1):
             with self.subTest(at):
@@ -78,9 +82,9 @@ class Runs(unittest.TestCase):
             (FileNotFoundError, errno.ENOENT, "/a", "/b"),
         )
 
-    def test_scripts(self):
+    def test_scripts(self) -> None:
         """The script of a run has its journal, and names its seed."""
-        threads = {
+        threads: Threads = {
             **MOVED,
             "w": ["mknod /b/f", "write /a/f 3 00ff", "exchange /a/d /b/f"],
             "s": ["readdir /a", "rmdir /b/d", "readdir /"],
@@ -94,10 +98,10 @@ class Runs(unittest.TestCase):
                 self.assertIn(f"# seed {seed}\n", error.script)
                 self.assertLessEqual(max(map(len, error.script.splitlines())), 72)
 
-    def test_calls_of_the_check(self):
+    def test_calls_of_the_check(self) -> None:
         """The check may call the tree; the journal of the error ends before that."""
 
-        def check(tree, replies):
+        def check(tree: atomfs.Tree, replies: typing.Dict[str, typing.Any]) -> None:
             tree.rename("/a", "/c")
             self.assertEqual(tree.check(), "lawful")
             raise KeyError("none")
@@ -111,26 +115,26 @@ class Runs(unittest.TestCase):
         for part in ("seed 1: KeyError: 'none'", error.script, error.journal):
             self.assertIn(part, str(error))
 
-    def test_picture(self):
+    def test_picture(self) -> None:
         """The error of a check draws its run, and has a page of it; where these were written, the plugin of pytest says."""
         error = failed(self, MOVED, before=BEFORE)
         self.assertEqual((error.draw(), error.picture), (atomfs.draw(error.script), None))
         page = atomfs.draw(error.script, html=True)
         self.assertEqual((error.page(), error.html, error.page_file), (page, page.html, None))
 
-    def test_no_failure(self):
+    def test_no_failure(self) -> None:
         """It tells how many runs there were; what a check answers is looked at for False alone."""
         self.assertEqual(explore({"t": ["mkdir /a"]}, lambda tree, replies: 0, runs=3), 3)
         self.assertEqual(explore({"t": []}, lambda tree, replies: replies == {"t": []}, runs=2), 2)
         self.assertEqual(explore({"t": []}, lambda tree, replies: False, runs=0), 0)
         self.assertEqual(failed(self, {"t": []}).journal, "atomfs-journal 4\nstart\ndir /\nentries\n")
 
-    def test_lists(self):
+    def test_lists(self) -> None:
         """By the third limits, which are those where none are named, threads list directories, and the script is one of these."""
-        threads = {"m": ["mknod /b", "unlink /a"], "l": ["list / / 9", ("list", "/", "/a", 1)]}
+        threads: Threads = {"m": ["mknod /b", "unlink /a"], "l": ["list / / 9", ("list", "/", "/a", 1)]}
         came = set()
 
-        def check(tree, replies):
+        def check(tree: atomfs.Tree, replies: typing.Dict[str, typing.Any]) -> None:
             came.add(tuple(map(tuple, replies["l"])))
 
         explore(threads, check, runs=200, before=["mknod /a"])
@@ -144,15 +148,15 @@ class Runs(unittest.TestCase):
             self.assertIn("\nlist / / 4294967295\nlist / / 4294967295\nschedule\n", error.script)
             self.assertEqual(atomfs.run(error.script).partition("tree\n")[0], error.journal)
 
-    def test_interrupted(self):
-        def check(tree, replies):
+    def test_interrupted(self) -> None:
+        def check(tree: atomfs.Tree, replies: typing.Dict[str, typing.Any]) -> None:
             raise KeyboardInterrupt
 
         self.assertRaises(KeyboardInterrupt, explore, {"t": []}, check)
 
 
 class BadInput(unittest.TestCase):
-    def test_calls(self):
+    def test_calls(self) -> None:
         """What is no call raises the error of what it is, before any run."""
         for kind, words, call in (
             (ValueError, "'mkdr' is none of the twelve calls", "mkdr /a"),
@@ -181,7 +185,7 @@ class BadInput(unittest.TestCase):
                 limits=limits,
             )
 
-    def test_threads(self):
+    def test_threads(self) -> None:
         for kind, threads in (
             (ValueError, {}),
             (ValueError, {"T": []}),
@@ -195,37 +199,37 @@ class BadInput(unittest.TestCase):
         for limits in (Limits.V1, Limits.V2):
             words = "1 to 256 threads make at most 65,536 calls"
             self.assertRaisesRegex(ValueError, words, explore, {"t": ["stat /"] * 65_537}, self.fail, limits=limits)
-        self.assertEqual(explore({"t": ["stat /"] * 65_537}, self.fail, runs=0), 0)
+        self.assertEqual(explore({"t": ["stat /"] * 65_537}, self.fail, runs=0), 0)  # type: ignore[arg-type]
         self.assertRaisesRegex(ValueError, "thread before", explore, {"before": []}, self.fail, before=["mkdir /a"])
         self.assertRaises(ValueError, explore, {"t": []}, self.fail, runs=-1)
         self.assertRaises(TypeError, explore, {"t": []}, self.fail, seed="1")
         with self.assertRaisesRegex(OSError, "All 1 nodes of the tree are in use: '/a'"):
-            explore({"t": ["mkdir /a"]}, self.fail, limit=1)
+            explore({"t": ["mkdir /a"]}, self.fail, limit=1)  # type: ignore[arg-type]
 
 
 class Simulate(unittest.TestCase):
     @atomfs.simulate({"m": ["mkdir /a"], "r": ["rmdir /a"]}, runs=200)
-    def test_one_is_first(tree, replies):  # noqa: N805
+    def test_one_is_first(tree: typing.Any, replies: typing.Dict[str, typing.Any]) -> None:  # noqa: N805
         """A method without self is a test, too."""
         assert ("/a" in tree) == isinstance(replies["r"][0], FileNotFoundError)
 
-    test_one_is_first = staticmethod(test_one_is_first)
+    test_one_is_first = staticmethod(test_one_is_first)  # type: ignore[assignment]
 
-    def test_function(self):
+    def test_function(self) -> None:
         @atomfs.simulate({"m": ["mkdir /a"]}, runs=3, seed=5, before=["mkdir /b"])
-        def check(tree, replies):
+        def check(tree: atomfs.Tree, replies: typing.Dict[str, typing.Any]) -> None:
             """Both are there."""
             seen.append(list(tree))
             assert len(seen) < 3
 
-        seen = []
+        seen: typing.List[typing.List[str]] = []
         self.assertEqual((check.__name__, check.__doc__), ("check", "Both are there."))
         with self.assertRaises(ScheduleError) as raised:
             check()
         self.assertEqual((raised.exception.seed, seen[0]), (7, ["/", "/a", "/b"]))
 
     @unittest.skipUnless(importlib.util.find_spec("pytest"), "there is no pytest: apt-get install python3-pytest")
-    def test_pytest(self):
+    def test_pytest(self) -> None:
         """pytest finds the tests, gives them no fixtures, and shows seed and script of one that fails, also by pytest.fail."""
         text = """
 import atomfs, pytest

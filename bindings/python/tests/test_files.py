@@ -18,29 +18,29 @@ LONG = "n" * 256
 
 
 class Files(unittest.TestCase):
-    def setUp(self):
+    def setUp(self) -> None:
         self.files = AtomFS(limit=500)
         self.tree = self.files.atom_tree
 
-    def tearDown(self):
+    def tearDown(self) -> None:
         self.assertEqual(self.tree.check(), "lawful")
         self.files.close()
         self.assertTrue(self.tree.closed)
 
-    def test_opener(self):
+    def test_opener(self) -> None:
         with fs.open_fs("atomfs://") as files:
             self.assertIsInstance(files, AtomFS)
             files.writetext("a", "text")
             self.assertEqual(files.readtext("a"), "text")
 
-    def test_opener_refuses(self):
+    def test_opener_refuses(self) -> None:
         """What a URL asks for beside a new tree is read by nobody, and refused."""
         for url in ("atomfs://?limit=3", "atomfs://x/y", "atomfs://user:word@", "atomfs://!/a"):
             with self.subTest(url):
                 self.assertRaisesRegex(OpenerError, "takes no path", fs.open_fs, url)
         fs.open_fs("atomfs:///").close()
 
-    def test_words_of_limits(self):
+    def test_words_of_limits(self) -> None:
         with AtomFS(limits=atomfs.Limits.V2) as files:
             for at in range(256):
                 files.create(str(at))
@@ -50,14 +50,14 @@ class Files(unittest.TestCase):
             str(raised.exception), "path 'x': The directory has 256 entries, and no more may be made in it"
         )
 
-    def test_given_tree(self):
+    def test_given_tree(self) -> None:
         """A tree that is given stays open."""
         with atomfs.Tree() as tree:
             with AtomFS(tree) as files:
                 files.makedir("a")
             self.assertEqual(tree.readdir("/"), ["a"])
 
-    def test_no_tree(self):
+    def test_no_tree(self) -> None:
         """One whose tree is refused is closed without a word."""
         self.addCleanup(setattr, sys, "unraisablehook", sys.unraisablehook)
         told = []
@@ -66,7 +66,7 @@ class Files(unittest.TestCase):
         gc.collect()
         self.assertEqual(told, [])
 
-    def test_limits(self):
+    def test_limits(self) -> None:
         self.assertEqual(
             self.files.getmeta("atomfs"), {"name_bytes": 255, "path_names": 2_048, "file_bytes": 2_147_483_648}
         )
@@ -77,7 +77,7 @@ class Files(unittest.TestCase):
                 self.assertRaises(errors.InvalidPath, self.files.exists, path)
         self.files.makedir("n" * 255)
 
-    def test_smaller_limits(self):
+    def test_smaller_limits(self) -> None:
         """A file system by the first two sets refuses what one by the third takes."""
         for limits, name, size in ((atomfs.Limits.V1, 32, 65_536), (atomfs.Limits.V2, 64, 1_048_576)):
             with self.subTest(limits), AtomFS(limits=limits) as files:
@@ -88,14 +88,14 @@ class Files(unittest.TestCase):
                 self.assertRaises(OSError, files.writebytes, "f", bytes(size + 1))
                 files.writebytes("f", bytes(size))
 
-    def test_full(self):
+    def test_full(self) -> None:
         with AtomFS(limits=atomfs.Limits.V2) as files:
             for at in range(256):
                 files.create(str(at))
             self.assertRaises(errors.InsufficientStorage, files.makedir, "one_more")
             self.assertRaises(errors.InsufficientStorage, files.create, "one_more")
 
-    def test_modes(self):
+    def test_modes(self) -> None:
         """What each mode does to a file with bytes, and where it begins."""
         rows = (
             ("r", b"old", b"old"),
@@ -115,7 +115,7 @@ class Files(unittest.TestCase):
                             self.assertEqual(file.write(written), 3)
                     self.assertEqual(self.files.readbytes("f"), wanted)
 
-    def test_a_file(self):
+    def test_a_file(self) -> None:
         """Positions, gaps and sizes."""
         with self.files.openbin("f", "w+") as file:
             self.assertEqual(file.seek(4), 4)
@@ -132,7 +132,7 @@ class Files(unittest.TestCase):
         self.assertRaises(ValueError, file.read)
         self.assertEqual(self.files.readbytes("f"), b"\0\0")
 
-    def test_appends(self):
+    def test_appends(self) -> None:
         """Each write of a file that appends goes to the end as it is then."""
         with self.files.openbin("f", "a", 0) as one, self.files.openbin("f", "a", 0) as other:
             one.write(b"1")
@@ -141,8 +141,8 @@ class Files(unittest.TestCase):
             self.assertEqual((one.tell(), other.tell()), (3, 2))
         self.assertEqual(self.files.readbytes("f"), b"123")
 
-    def test_appends_of_threads(self):
-        def work():
+    def test_appends_of_threads(self) -> None:
+        def work() -> None:
             with self.files.openbin("f", "a", 0) as file:
                 for _ in range(100):
                     file.write(b"12345")
@@ -154,7 +154,7 @@ class Files(unittest.TestCase):
             thread.join()
         self.assertEqual(self.files.readbytes("f"), b"12345" * 400)
 
-    def test_copies_by_threads(self):
+    def test_copies_by_threads(self) -> None:
         """Threads write and read files while the file system's lock is held."""
         with fs.open_fs("mem://") as other, AtomFS() as files:
             for at in range(20):
@@ -163,7 +163,7 @@ class Files(unittest.TestCase):
                 fs.copy.copy_fs(source, goal, workers=3)
             self.assertEqual([files.getsize(str(at)) for at in range(20)], [60_000] * 20)
 
-    def test_too_long(self):
+    def test_too_long(self) -> None:
         """A write that passes the limit of a file writes nothing."""
         with AtomFS(limits=atomfs.Limits.V2) as files:
             with files.openbin("f", "w", 0) as file:
@@ -173,23 +173,24 @@ class Files(unittest.TestCase):
                 self.assertEqual(raised.exception.errno, errno.EFBIG)
             self.assertEqual(files.getsize("f"), 1_048_576)
 
-    def test_removed_meanwhile(self):
+    def test_removed_meanwhile(self) -> None:
         """An open file is a path: behind its removal there is nothing to read."""
         self.files.writebytes("f", b"bytes")
         with self.files.openbin("f") as file:
             self.files.remove("f")
             self.assertRaises(FileNotFoundError, file.read)
 
-    def test_one_call_for_a_file(self):
+    def test_one_call_for_a_file(self) -> None:
         """A file of up to 1,048,576 bytes is written by one call; one that the room holds is read by one, behind the read that looks for it."""
         for size, counts in ((65_536, (1, 2)), (1_048_576, (1, 3))):
-            with AtomFS() as files:
+            files = AtomFS()
+            with files:
                 files.writebytes("f", b"x" * size)
                 self.assertEqual(files.readbytes("f"), b"x" * size)
                 journal = files.atom_tree.journal()
                 self.assertEqual((journal.count(" write /f"), journal.count(" read /f 0 ")), counts)
 
-    def test_moves(self):
+    def test_moves(self) -> None:
         """A file moves by one rename."""
         self.files.makedir("d")
         self.files.writebytes("f", b"f")
@@ -201,7 +202,7 @@ class Files(unittest.TestCase):
         self.assertRaises(errors.ResourceNotFound, self.files.move, "g", "g/h")
         self.assertIn("rename /f /g", self.tree.journal())
 
-    def test_kinds_of_errors(self):
+    def test_kinds_of_errors(self) -> None:
         self.files.writebytes("f", b"")
         self.files.makedir("d")
         rows = (
@@ -223,7 +224,7 @@ class Files(unittest.TestCase):
             with self.subTest(at):
                 self.assertRaises(kind, call)
 
-    def test_names(self):
+    def test_names(self) -> None:
         """Entries come in byte order of their names, and a name need not be UTF-8."""
         self.tree.mknod(b"/\xff")
         for name in ("b", "a", "\N{SNOWMAN}"):
@@ -232,9 +233,10 @@ class Files(unittest.TestCase):
         self.assertEqual([info.name for info in self.files.scandir("/", page=(1, 3))], ["b", "\N{SNOWMAN}"])
         self.assertTrue(self.files.exists("\udcff"))
 
-    def test_large_directories(self):
+    def test_large_directories(self) -> None:
         """A directory comes whole, by several calls."""
-        with AtomFS() as files:
+        files = AtomFS()
+        with files:
             names = [f"{at:03}" for at in range(300)]
             for name in names:
                 files.create(f"d{name}" if name == "000" else name)
@@ -245,7 +247,7 @@ class Files(unittest.TestCase):
             files.makedirs("/n" * 2_048)
             self.assertRaises(errors.InvalidPath, files.exists, "/n" * 2_049)
 
-    def test_removed_while_scanned(self):
+    def test_removed_while_scanned(self) -> None:
         for name in "abc":
             self.files.create(name)
         scanned = self.files.scandir("/")

@@ -2,30 +2,31 @@
 import pathlib
 import pickle
 import tempfile
+import typing
 import unittest
 
-import fsspec
-from fsspec.implementations.local import LocalFileSystem
+import fsspec  # type: ignore[import]
+from fsspec.implementations.local import LocalFileSystem  # type: ignore[import]
 
 import atomfs
 from atomfs.fsspec import AtomFileSystem
 
 
-def plain(info):
+def plain(info: typing.Dict[str, typing.Any]) -> typing.Dict[str, typing.Any]:
     """What is of the tree alone."""
     return {name: info[name] for name in ("name", "size", "type")}
 
 
 class Specs(unittest.TestCase):
-    def setUp(self):
+    def setUp(self) -> None:
         self.tree = atomfs.Tree()
         self.files = AtomFileSystem(tree=self.tree)
 
-    def tearDown(self):
+    def tearDown(self) -> None:
         self.assertEqual(self.tree.check(), "lawful")
         self.tree.close()
 
-    def test_protocol(self):
+    def test_protocol(self) -> None:
         """What is opened by its URL is one tree of the process."""
         with fsspec.open("atomfs://hello.txt", "wt") as file:
             file.write("hello")
@@ -38,7 +39,7 @@ class Specs(unittest.TestCase):
         self.assertFalse(self.files.exists("/hello.txt"))
         self.assertIsNot(shared.atom_tree, self.tree)
 
-    def test_kept(self):
+    def test_kept(self) -> None:
         """What a file system of the disk answers besides, and what `touch` and `rm` of a directory do there."""
         files = self.files
         with tempfile.TemporaryDirectory() as at:
@@ -61,7 +62,7 @@ class Specs(unittest.TestCase):
         self.assertRaises(IsADirectoryError, files.touch, "/d", truncate=False)
         self.assertEqual(pickle.loads(pickle.dumps(files)).info("/f")["ino"], files.info("/f")["ino"])
 
-    def test_directories(self):
+    def test_directories(self) -> None:
         files = self.files
         files.mkdir("/a/b/c")
         files.makedirs("/a/b/c", exist_ok=True)
@@ -84,7 +85,7 @@ class Specs(unittest.TestCase):
         self.assertEqual(files.info("/")["type"], "directory")
         self.assertTrue(files.isdir("/a") and files.isfile("/a/f") and not files.exists("/a/f/g"))
 
-    def test_large_directories(self):
+    def test_large_directories(self) -> None:
         """A directory comes whole, by several calls."""
         with atomfs.Tree() as tree:
             files, names = AtomFileSystem(tree=tree), [f"/d/{at:03}" for at in range(300)]
@@ -98,7 +99,7 @@ class Specs(unittest.TestCase):
             files.rm("/d", recursive=True)
             self.assertEqual(tree.check(), "lawful")
 
-    def test_walks(self):
+    def test_walks(self) -> None:
         files = self.files
         for path in ("/a/b/1.txt", "/a/2.txt", "/3.bin"):
             files.makedirs(files._parent(path), exist_ok=True)
@@ -114,7 +115,7 @@ class Specs(unittest.TestCase):
             files.cat("/a", recursive=True, on_error="omit"), {"/a/2.txt": b"/a/2.txt", "/a/b/1.txt": b"/a/b/1.txt"}
         )
 
-    def test_files(self):
+    def test_files(self) -> None:
         files = self.files
         files.pipe("/f", b"0123456789")
         self.assertEqual(
@@ -145,7 +146,7 @@ class Specs(unittest.TestCase):
         self.assertRaises(IsADirectoryError, files.open, "/", "rb")
         self.assertRaises(IsADirectoryError, files.open, "/", "wb")
 
-    def test_copies_and_moves(self):
+    def test_copies_and_moves(self) -> None:
         files = self.files
         files.mkdir("/a/b")
         files.pipe("/a/b/f", b"f")
@@ -166,10 +167,10 @@ class Specs(unittest.TestCase):
         self.assertEqual(files.ls("/"), [])
         self.assertIn("rename /c /d", self.tree.journal())
 
-    def test_up_and_down(self):
+    def test_up_and_down(self) -> None:
         files = self.files
-        with tempfile.TemporaryDirectory() as folder:
-            folder = pathlib.Path(folder)
+        with tempfile.TemporaryDirectory() as at:
+            folder = pathlib.Path(at)
             (folder / "up" / "sub").mkdir(parents=True)
             (folder / "up" / "sub" / "f").write_bytes(b"bytes")
             files.put(str(folder / "up"), "/up", recursive=True)
@@ -177,14 +178,14 @@ class Specs(unittest.TestCase):
             files.get("/up", str(folder / "down"), recursive=True)
             self.assertEqual((folder / "down" / "sub" / "f").read_bytes(), b"bytes")
 
-    def test_mapper(self):
+    def test_mapper(self) -> None:
         keys = self.files.get_mapper("/store", create=True)
         keys["a/b"] = b"value"
         self.assertEqual((keys["a/b"], list(keys), len(keys)), (b"value", ["a/b"], 1))
         del keys["a/b"]
         self.assertEqual(list(keys), [])
 
-    def test_transactions(self):
+    def test_transactions(self) -> None:
         """Files of a transaction come to their paths at its end, and to none of them where it fails."""
         files = self.files
         files.pipe("/old", b"old")

@@ -1,12 +1,15 @@
 """Histories of any tree: how they are recorded, and what the library finds of them."""
 import asyncio
 import errno
+import html
 import os
 import pathlib
+import re
 import tempfile
 import threading
 import unittest
 import unittest.mock
+from typing import Any, Callable, Dict, List, Set, Tuple, Type, Union
 
 import fs.errors
 import fs.memoryfs
@@ -20,28 +23,57 @@ LONG = f"write /f 0 {'07' * 200}"
 BEGUN = HEADER + "begin 1 0 mkdir /a\nbegin 2 1 stat /a\n"
 
 
-def lines(history):
+def lines(history: History) -> List[str]:
     """The lines of the entries."""
     return history.text().partition("entries\n")[2].splitlines()
 
 
-def replies(history):
+def played(page: atomfs.Page) -> Tuple[str, str]:
+    """The picture and the text of a page."""
+    picture, text = re.search("<noscript>\n(.*?)</noscript>", page.html, re.S), re.search(
+        "<pre[^>]*>\n(.*?)</pre>", page.html, re.S
+    )
+    assert picture and text
+    return picture[1], html.unescape(text[1])
+
+
+def replies(history: History) -> List[str]:
     """The replies, in the order of the returns."""
     return [line.split(" ", 2)[2] for line in lines(history) if line.startswith("return ")]
 
 
+def journal_of(found: object) -> str:
+    """The journal of a history that has an order."""
+    assert isinstance(found, Lawful)
+    return found.journal
+
+
+def words_of(found: object) -> str:
+    """The words about the entry that was found."""
+    assert isinstance(found, (NoOrder, NoHistory))
+    return found.words
+
+
+def front_of(history: str) -> str:
+    """The front of a history without an order."""
+    front = atomfs.front(history)
+    assert front is not None
+    return front
+
+
 class Linearize(unittest.TestCase):
-    def test_lawful(self):
-        for text in (
+    def test_lawful(self) -> None:
+        texts: Tuple[Union[str, bytes], ...] = (
             BEGUN + "return 2 failed ?\nreturn 1 ok\n",
             (BEGUN + "return 2 stat dir ?\nreturn 1 ok\n").encode(),
-        ):
+        )
+        for text in texts:
             found = atomfs.linearize(text)
             self.assertIsInstance(found, Lawful)
-            self.assertEqual((found.verdict, atomfs.check(found.journal)), ("lawful", "lawful"))
-            self.assertEqual(found.journal.count("commit "), 2)
+            self.assertEqual((found.verdict, atomfs.check(journal_of(found))), ("lawful", "lawful"))
+            self.assertEqual(journal_of(found).count("commit "), 2)
 
-    def test_others(self):
+    def test_others(self) -> None:
         for text, limit, wanted in (
             (BEGUN + "return 2 stat dir 1\n", None, NoOrder(3, 2)),
             (BEGUN + "return 2 stat dir 1\n", 1, Unknown(2)),
@@ -51,11 +83,51 @@ class Linearize(unittest.TestCase):
             with self.subTest(wanted):
                 self.assertEqual(atomfs.linearize(text, limit=limit), wanted)
         self.assertNotEqual(NoOrder(3, 2), NoOrder(3, 1))
-        verdicts = [found.verdict for found in (NoOrder(3, 2), NoHistory(3, "SeatBusy"), Unknown(2))]
+        others: Tuple[Union[NoOrder, NoHistory, Unknown], ...] = (NoOrder(3, 2), NoHistory(3, "SeatBusy"), Unknown(2))
+        verdicts = [found.verdict for found in others]
         self.assertEqual(verdicts, ["none 3 2", "fault 3 SeatBusy", "unknown 2"])
 
-    def test_refused(self):
-        for kind, words, call in (
+    def test_drawn(self) -> None:
+        """The picture and the page of a history have the order that was found, or end at the return at fault; the page has later calls too."""
+        text = BEGUN + "return 2 stat dir ?\nreturn 1 ok\n"
+        journal, picture = journal_of(atomfs.linearize(text)), atomfs.draw_history(text)
+        self.assertEqual(picture, atomfs.draw(journal))
+        self.assertEqual(
+            played(atomfs.draw_history(text, html=True)), (picture.svg, "# lawful\n# history lawful\n" + journal)
+        )
+        # The replies of later calls may be open.
+        none, later = BEGUN + "return 2 stat dir 1\n# 3\nreturn 1 ok\n", "begin 3 0 stat /b\nreturn 3 failed ?\n"
+        front, picture = front_of(none), atomfs.draw_history((none + later).encode())
+        self.assertEqual(picture, atomfs.draw(front))
+        notes = f"# {atomfs.check(front)}\n# history none 3 2\n"
+        notes += "".join(f"# reply {line}\n" for line in words_of(atomfs.linearize(none)).splitlines()[1:])
+        self.assertIn("# reply the call could have replied: ", notes)
+        page = played(atomfs.draw_history(none + later, html=True))
+        self.assertEqual(page, (picture.svg, notes + front + "return 1 ok\n" + later))
+
+    def test_not_drawn(self) -> None:
+        none = BEGUN + "return 2 stat dir 1\n"
+        rows: Tuple[Tuple[Type[Exception], str, Tuple[Any, ...]], ...] = (
+            (ValueError, "the search reached its limit: unknown 2", (none, 1)),
+            (ValueError, "this is no history: fault 3 SeatBusy", (BEGUN + "begin 3 1 stat /\n",)),
+            (Error, "line 1: BadHeader: ", ("",)),
+            (TypeError, "bytes-like", (7,)),
+        )
+        for kind, words, given in rows:
+            for html in (False, True):
+                with self.subTest(words, html=html), self.assertRaisesRegex(kind, words):
+                    atomfs.draw_history(*given, html=html)
+
+    def test_drawn_recorded(self) -> None:
+        history = History()
+        with history.call("mkdir", "/a"):
+            pass
+        self.assertEqual(history.draw(), atomfs.draw_history(history.text()))
+        self.assertEqual(history.draw(html=True), atomfs.draw_history(history.text(), html=True))
+        self.assertRaises(ValueError, history.draw, 0)
+
+    def test_refused(self) -> None:
+        rows: Tuple[Tuple[Type[Exception], str, Callable[[], object]], ...] = (
             (Error, "line 1: BadHeader: ", lambda: atomfs.linearize("")),
             (Error, "line 4: BadLine: ", lambda: atomfs.linearize(BEGUN + "commit 1\n")),
             (Error, "line 4: BadReply: ", lambda: atomfs.linearize(BEGUN + "return 1 done\n")),
@@ -71,20 +143,21 @@ class Linearize(unittest.TestCase):
                 lambda: atomfs.linearize(BEGUN, 10**9 + 1),
             ),
             (ValueError, "a negative limit", lambda: atomfs.linearize(BEGUN, -1)),
-            (TypeError, "limit is a whole number, and this is str", lambda: atomfs.linearize(BEGUN, "1")),
-            (TypeError, "memoryview: ", lambda: atomfs.linearize(7)),
-        ):
+            (TypeError, "limit is a whole number, and this is str", lambda: atomfs.linearize(BEGUN, "1")),  # type: ignore[arg-type]
+            (TypeError, "memoryview: ", lambda: atomfs.linearize(7)),  # type: ignore[arg-type]
+        )
+        for kind, words, call in rows:
             with self.subTest(words), self.assertRaises(kind) as raised:
                 call()
             self.assertEqual((type(raised.exception), str(raised.exception)[: len(words)]), (kind, words))
-        with self.assertRaises(Error) as raised:
+        with self.assertRaises(Error) as refused:
             atomfs.linearize(BEGUN + "commit 1\n")
-        self.assertEqual((raised.exception.status, raised.exception.about), (Status.BAD_LINE, 4))
+        self.assertEqual((refused.exception.status, refused.exception.about), (Status.BAD_LINE, 4))
 
-    def test_words(self):
+    def test_words(self) -> None:
         """What the entry says, which call it is, and what that could have replied; the rest of a long one is left out, and what is no text stands for itself."""
         could = "the call could have replied:"
-        for text, wanted in (
+        rows: Tuple[Tuple[Union[str, bytes], str], ...] = (
             (
                 BEGUN + "return 2 stat dir 1\n",
                 "line 4: return 2 stat dir 1; call 2 is stat /a on seat 1\nthe call could have replied: failed ENOENT, stat dir 0",
@@ -103,13 +176,14 @@ class Linearize(unittest.TestCase):
                 HEADER.encode() + b"begin 1 0 stat /\xff\nreturn 1 ok\n",
                 f"line 3: return 1 ok; call 1 is stat /\ufffd on seat 0\n{could} failed ENOENT",
             ),
-        ):
+        )
+        for text, wanted in rows:
             with self.subTest(wanted):
-                self.assertEqual(atomfs.linearize(text).words, wanted)
+                self.assertEqual(words_of(atomfs.linearize(text)), wanted)
 
-    def test_front(self):
+    def test_front(self) -> None:
         """With no order the journal up to that return, which is the first fault of it; else there is none."""
-        told = atomfs.front(BEGUN + "return 2 stat dir 1\nreturn 1 ok\n")
+        told = front_of(BEGUN + "return 2 stat dir 1\nreturn 1 ok\n")
         self.assertEqual((told, atomfs.check(told)), (BEGUN + "return 2 stat dir 1\n", "fault 3 ReturnUncommitted"))
         self.assertIn("fault 3 ReturnUncommitted", str(atomfs.draw(told)))
         for text, limit in (
@@ -121,16 +195,16 @@ class Linearize(unittest.TestCase):
         with self.assertRaisesRegex(Error, "line 4: BadLine: "):
             atomfs.front(BEGUN + "commit 1\n")
 
-    def test_room(self):
+    def test_room(self) -> None:
         """A journal that is longer than the room for it is asked for once more."""
         text = "atomfs-journal 3\nstart\ndir /\nentries\n" + "".join(
             f"begin {at} {at} stat /{chr(233) * 30}\n" for at in range(1, 4_000)
         )
         found = atomfs.linearize(text)
-        self.assertEqual(atomfs.check(found.journal), "lawful")
-        self.assertGreater(len(found.journal), 2 * len(text.encode()) + 2**16)
+        self.assertEqual(atomfs.check(journal_of(found)), "lawful")
+        self.assertGreater(len(journal_of(found)), 2 * len(text.encode()) + 2**16)
 
-    def test_no_memory(self):
+    def test_no_memory(self) -> None:
         with unittest.mock.patch.object(library(), "linearize", return_value=Status.NO_MEMORY), self.assertRaises(
             MemoryError
         ):
@@ -140,10 +214,10 @@ class Linearize(unittest.TestCase):
 class Texts(unittest.TestCase):
     """What is recorded of one thread."""
 
-    def setUp(self):
+    def setUp(self) -> None:
         self.history = History()
 
-    def test_replies(self):
+    def test_replies(self) -> None:
         with self.history.call("mkdir /a%20b"):
             pass
         with self.history.call("write", "/a b/f", 0, b"\x07") as answer:
@@ -185,7 +259,7 @@ class Texts(unittest.TestCase):
             lines(self.history)[:3], ["begin 1 0 mkdir /a%20b", "return 1 ok", "begin 2 0 write /a%20b/f 0 07"]
         )
 
-    def test_errors(self):
+    def test_errors(self) -> None:
         """An error that is a reply ends the block, and is kept."""
         for line, error, word in (
             ("mkdir /a", OSError(errno.EEXIST, "there"), "EEXIST"),
@@ -203,7 +277,7 @@ class Texts(unittest.TestCase):
                 self.assertEqual(replies(self.history)[-1], f"failed {word}")
                 self.assertIs(answer.error, error)
 
-    def test_errors_of_others(self):
+    def test_errors_of_others(self) -> None:
         """A library's own errors are named; the first class that fits decides."""
         history = History(
             errors={KeyError: errno.ENOENT, LookupError: None, TimeoutError: None, FileExistsError: errno.EBUSY}
@@ -218,7 +292,7 @@ class Texts(unittest.TestCase):
                 raise error
             self.assertEqual(replies(history)[-1], f"failed {word}")
 
-    def test_under_way(self):
+    def test_under_way(self) -> None:
         """Behind what is no reply the call stays under way, and what was raised goes on; the next call has another seat."""
         for error in (
             RuntimeError(),
@@ -237,14 +311,14 @@ class Texts(unittest.TestCase):
         )
         self.assertEqual(repr(self.history), "<atomfs.History of 6 calls, 5 of them under way>")
 
-    def test_told_before_an_error(self):
+    def test_told_before_an_error(self) -> None:
         """A reply that was told is recorded, whatever is raised behind it."""
         with self.assertRaises(OSError), self.history.call("readdir /") as answer:
             answer.names([])
             raise OSError(errno.ENOENT, "of something else")
         self.assertEqual(replies(self.history), ["names"])
 
-    def test_not_told(self):
+    def test_not_told(self) -> None:
         """A reply that is not told leaves the call under way; one that is none of the call's is refused."""
         for line in ("stat /", "readdir /", "read / 0 1", "write / 0 07"):
             with self.subTest(line), self.assertRaisesRegex(
@@ -252,7 +326,7 @@ class Texts(unittest.TestCase):
             ), self.history.call(line):
                 pass
         self.assertEqual(replies(self.history), [])
-        for line, tell, kind, words in (
+        rows: Tuple[Tuple[str, Callable[[Any], object], Type[Exception], str], ...] = (
             ("mkdir /a", lambda answer: answer.names([]), TypeError, "names tells no reply of mkdir"),
             ("readdir /", lambda answer: answer.data(b""), TypeError, "data tells no reply of readdir"),
             ("readdir /", lambda answer: answer.names("ab"), TypeError, "names takes several names, and this is str"),
@@ -281,12 +355,13 @@ class Texts(unittest.TestCase):
                 TypeError,
                 "count is a whole number, and this is bytes",
             ),
-        ):
+        )
+        for line, tell, kind, words in rows:
             with self.subTest(words), self.assertRaises(kind) as raised, self.history.call(line) as answer:
                 tell(answer)
             self.assertEqual(str(raised.exception)[: len(words)], words)
 
-    def test_lists(self):
+    def test_lists(self) -> None:
         """By the third limits, which are those where none are named, a history has lists, and the error of a directory that is too large for
         one reply; others have neither."""
         history = History()
@@ -318,9 +393,9 @@ class Texts(unittest.TestCase):
             raise OSError(errno.EOVERFLOW, "too many")
         self.assertEqual(lines(history)[-1], "return 1 failed ?")
 
-    def test_no_call(self):
+    def test_no_call(self) -> None:
         """What is no call is refused, by no error that looks like one of the tree; and nothing is recorded."""
-        for kind, words, given in (
+        rows: Tuple[Tuple[Type[Exception], str, Tuple[Any, ...]], ...] = (
             (ValueError, "'touch /a' is no call: 'touch' is none of the twelve calls", ("touch /a",)),
             (ValueError, "'mkdir a' is no call: ", ("mkdir a",)),
             (ValueError, "('mkdir', '/..') is no call: ", ("mkdir", "/..")),
@@ -330,13 +405,14 @@ class Texts(unittest.TestCase):
             (TypeError, "rename takes path, path", ("rename /a",)),
             (TypeError, "mkdir takes path", ("mkdir", "/a", 0o777)),
             (TypeError, "call takes the name of a call, or its line, and this is tuple", (("mkdir", "/a"),)),
-        ):
+        )
+        for kind, words, given in rows:
             with self.subTest(words), self.assertRaises(kind) as raised:
                 self.history.call(*given)
             self.assertEqual((type(raised.exception), str(raised.exception)[: len(words)]), (kind, words))
         self.assertEqual(lines(self.history), [])
 
-    def test_with(self):
+    def test_with(self) -> None:
         """A call that no block makes is not recorded, and that is told; one is for one block."""
         with self.assertWarnsRegex(RuntimeWarning, "^mkdir /a is not recorded: "):
             self.history.call("mkdir /a")
@@ -347,7 +423,7 @@ class Texts(unittest.TestCase):
             self.fail("the block began")
         self.assertEqual(lines(self.history), ["begin 1 0 mkdir /a", "return 1 ok"])
 
-    def test_start(self):
+    def test_start(self) -> None:
         """The start tree is that of the moment when the history was made, and its limits are those of the history."""
         with Tree.from_dict({"a/f": "\x07", "b": None}, limits=Limits.V1) as tree:
             history, nodes = History(tree), "start\ndir /\ndir /a\nfile /a/f 07\ndir /b\nentries\n"
@@ -368,10 +444,11 @@ class Texts(unittest.TestCase):
 
 
 class Threads(unittest.TestCase):
-    def look(self, history, calls):
+    def look(self, history: History, calls: int) -> Set[str]:
         """Each call is there, on a seat where no other is under way."""
         self.assertEqual(repr(history), f"<atomfs.History of {calls:,} calls, 0 of them under way>")
-        busy, seat_of = set(), {}
+        busy: Set[str] = set()
+        seat_of: Dict[str, str] = {}
         for line in lines(history):
             word, number, *rest = line.split()
             if word == "begin":
@@ -383,11 +460,11 @@ class Threads(unittest.TestCase):
         self.assertEqual(len(seat_of), calls)
         return set(seat_of.values())
 
-    def test_threads(self):
+    def test_threads(self) -> None:
         """Each thread has a seat of its own."""
         history, together = History(), threading.Barrier(4)
 
-        def work():
+        def work() -> None:
             together.wait()
             for _ in range(500):
                 with history.call("mkdir /a"):
@@ -400,11 +477,11 @@ class Threads(unittest.TestCase):
             thread.join()
         self.assertEqual(self.look(history, 2_000), set("0123"))
 
-    def test_interval(self):
+    def test_interval(self) -> None:
         """What another thread records while a call is under way stands between its begin and its return."""
         history = History()
 
-        def other():
+        def other() -> None:
             with history.call("mkdir /b"):
                 pass
 
@@ -414,27 +491,27 @@ class Threads(unittest.TestCase):
             thread.join()
         self.assertEqual(lines(history), ["begin 1 0 mkdir /a", "begin 2 1 mkdir /b", "return 2 ok", "return 1 ok"])
 
-    def test_tasks(self):
+    def test_tasks(self) -> None:
         """Calls of one thread that overlap have seats of their own, which later calls get again."""
         history = History()
 
-        async def work(at):
+        async def work(at: int) -> None:
             for _ in range(3):
                 with history.call(f"mkdir /{at}"):
                     await asyncio.sleep(0)
 
-        async def all_of_them():
+        async def all_of_them() -> None:
             await asyncio.gather(*map(work, range(5)))
 
         asyncio.run(all_of_them())
         self.assertEqual(self.look(history, 15), set("01234"))
 
-    def test_tree(self):
+    def test_tree(self) -> None:
         """What threads do on a tree of this package is lawful."""
         with Tree() as tree:
             history = History(tree)
 
-            def work(at):
+            def work(at: object) -> None:
                 for name in "abcd":
                     with history.call("mkdir", f"/{name}"):
                         tree.mkdir(f"/{name}")
@@ -458,11 +535,11 @@ class Threads(unittest.TestCase):
 class Others(unittest.TestCase):
     """Trees of others."""
 
-    def test_kernel(self):
+    def test_kernel(self) -> None:
         """One thread on a directory of this machine is lawful."""
         history = History()
         with tempfile.TemporaryDirectory() as folder:
-            for line, made in (
+            rows: Tuple[Tuple[str, Callable[[Any], object]], ...] = (
                 ("mkdir /a", lambda answer: os.mkdir(f"{folder}/a")),
                 ("mkdir /a", lambda answer: os.mkdir(f"{folder}/a")),
                 ("mknod /a/f", lambda answer: os.mknod(f"{folder}/a/f")),
@@ -479,19 +556,20 @@ class Others(unittest.TestCase):
                 ("stat /b/f", lambda answer: answer.stat(False, os.stat(f"{folder}/b/f").st_size)),
                 ("truncate /b/f 1", lambda answer: os.truncate(f"{folder}/b/f", 1)),
                 ("read /b/f 0 9", lambda answer: answer.data(pathlib.Path(folder, "b", "f").read_bytes())),
-            ):
+            )
+            for line, made in rows:
                 with history.call(line) as answer:
                     made(answer)
         wanted = ["ok", "failed EEXIST", "ok", "wrote 2", "failed ENOTDIR", "failed EPERM", "failed ENOTEMPTY", "ok"]
         self.assertEqual(replies(history), [*wanted, "names f", "stat dir ?", "stat file 2", "ok", "bytes 07"])
         self.assertEqual(history.linearize().verdict, "lawful")
 
-    def test_memory_fs(self):
+    def test_memory_fs(self) -> None:
         """`removedir` of PyFilesystem2 looks whether a directory is empty before it takes the lock: one that is made meanwhile is lost."""
         looked, made = threading.Event(), threading.Event()
 
         class Slow(fs.memoryfs.MemoryFS):
-            def isempty(self, path):
+            def isempty(self, path: str) -> bool:
                 empty = super().isempty(path)
                 looked.set()
                 made.wait(10)
@@ -499,7 +577,7 @@ class Others(unittest.TestCase):
 
         files, history = Slow(), History()
 
-        def remove():
+        def remove() -> None:
             with history.call("rmdir /a"):
                 files.removedir("/a")
 
@@ -515,7 +593,7 @@ class Others(unittest.TestCase):
         self.assertEqual(replies(history), ["ok", "ok", "ok"])
         self.assertEqual(history.linearize(), NoOrder(6, 2))
 
-    def test_errors_of_fs(self):
+    def test_errors_of_fs(self) -> None:
         history = History()
         for line, error, word in (
             ("mkdir /a", fs.errors.DirectoryExists("/a"), "EEXIST"),

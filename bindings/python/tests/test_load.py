@@ -7,6 +7,7 @@ import pathlib
 import pickle
 import tempfile
 import threading
+import typing
 import unittest
 import zipfile
 
@@ -15,14 +16,17 @@ from atomfs import Limits, Snapshot, Tree
 
 FILES = {"/a/b/f": b"abc", "/a/g": b"", "/e": None, "/z/\N{SNOWMAN} %": bytes(range(256))}
 
+# A tree, of whichever class.
+AnyTree = typing.TypeVar("AnyTree", bound=Tree)
+
 
 class OfLoads(unittest.TestCase):
-    def setUp(self):
+    def setUp(self) -> None:
         folder = tempfile.TemporaryDirectory()
         self.addCleanup(folder.cleanup)
         self.folder = pathlib.Path(folder.name)
 
-    def kept(self, tree):
+    def kept(self, tree: AnyTree) -> AnyTree:
         """A tree that is closed at the end of the test, and lawful."""
         self.addCleanup(tree.close)
         self.addCleanup(lambda: self.assertEqual(tree.check(), "lawful"))
@@ -30,14 +34,14 @@ class OfLoads(unittest.TestCase):
 
 
 class Dictionaries(OfLoads):
-    def test_in_and_out(self):
+    def test_in_and_out(self) -> None:
         tree = self.kept(Tree.from_dict(FILES, 50, limits=Limits.V2))
         self.assertEqual((tree.to_dict(), tree.limit, tree.calls), (FILES, 50, 0))
         self.assertEqual(Tree.from_dict({}).to_dict(), {})
         tree.mkdir("/a/empty")
         self.assertEqual(tree.to_dict()["/a/empty"], None)
 
-    def test_forms(self):
+    def test_forms(self) -> None:
         """Paths with and without the first slash, texts as UTF-8, anything with bytes, and dictionaries in one another."""
         given = {
             "a/t": "\N{SNOWMAN}",
@@ -49,15 +53,16 @@ class Dictionaries(OfLoads):
         wanted = {"/a/t": "\N{SNOWMAN}".encode(), "/a/u": b"u", "/a/v": None, "/w": None, "/x/y": b"xy", "/m/n": b""}
         self.assertEqual(self.kept(Tree.from_dict(given)).to_dict(), wanted)
 
-    def test_refused(self):
-        for files, kind, words in (
+    def test_refused(self) -> None:
+        rows: typing.Iterable[typing.Tuple[typing.Any, ...]] = (
             ({"/a": b"", "/a/b": b""}, NotADirectoryError, "'/a/b'"),
             ({"/a/..": b""}, OSError, "A name of the path is . or ..: '/a/..'"),
             ({"/a": bytes(1_048_577)}, OSError, "The file would have more than 1,048,576 bytes: '/a'"),
             ({"/" + "n" * 65: b""}, OSError, "Path has a name of more than 64 bytes: '/nn"),
             ({"/a": 3}, TypeError, "int"),
             ({b"/a": b""}, TypeError, "a path is str, and this is bytes"),
-        ):
+        )
+        for files, kind, words in rows:
             with self.subTest(words), self.assertRaisesRegex(kind, words):
                 Tree.from_dict(files, limits=Limits.V2)
         with self.assertRaisesRegex(OSError, "All 3 nodes of the tree are in use"):
@@ -65,7 +70,7 @@ class Dictionaries(OfLoads):
 
 
 class Directories(OfLoads):
-    def test_in_and_out(self):
+    def test_in_and_out(self) -> None:
         tree = self.kept(Tree.from_dict(FILES))
         tree.to_directory(self.folder / "new" / "out")
         self.assertEqual((self.folder / "new" / "out" / "z" / "\N{SNOWMAN} %").read_bytes(), bytes(range(256)))
@@ -76,7 +81,7 @@ class Directories(OfLoads):
         tree.to_directory(str(self.folder / "new" / "out"), exist_ok=True)
         self.assertEqual((self.folder / "new" / "out" / "a" / "g").read_bytes(), b"new")
 
-    def fill(self):
+    def fill(self) -> None:
         (self.folder / "sub").mkdir()
         (self.folder / "sub" / "f").write_bytes(b"f")
         (self.folder / "large").write_bytes(bytes(1_048_577))
@@ -85,7 +90,7 @@ class Directories(OfLoads):
         (self.folder / "folder").symlink_to("sub")
         (self.folder / "lost").symlink_to("nothing")
 
-    def test_errors(self):
+    def test_errors(self) -> None:
         """What a tree cannot have is raised with its path on the disk, left out, or told."""
         self.fill()
         with self.assertRaises(OSError) as raised:
@@ -93,7 +98,7 @@ class Directories(OfLoads):
         self.assertEqual(
             (raised.exception.errno, raised.exception.filename), (errno.ENOTSUP, str(self.folder / "folder"))
         )
-        told = []
+        told: typing.List[OSError] = []
         tree = self.kept(Tree.from_directory(self.folder, on_error=told.append, limits=Limits.V2))
         self.assertEqual(tree.to_dict(), {"/file": b"f", "/sub/f": b"f"})
         wanted = {"folder": errno.ENOTSUP, "large": errno.EFBIG, "lost": errno.ENOENT, "pipe": errno.ENOTSUP}
@@ -105,7 +110,7 @@ class Directories(OfLoads):
         for on_error in ("raise", "skip"):
             self.assertRaises(FileNotFoundError, Tree.from_directory, self.folder / "none", on_error)
 
-    def test_limits(self):
+    def test_limits(self) -> None:
         """Names of 255 bytes, which are the longest of the disk too, are there."""
         (self.folder / ("n" * 255)).touch()
         for limits, most in ((Limits.V1, 32), (Limits.V2, 64)):
@@ -122,7 +127,7 @@ class Directories(OfLoads):
 
 
 class Zips(OfLoads):
-    def test_in_and_out(self):
+    def test_in_and_out(self) -> None:
         tree, packed = self.kept(Tree.from_dict(FILES)), io.BytesIO()
         tree.to_zip(packed)
         self.assertEqual(self.kept(Tree.from_zip(packed)).to_dict(), FILES)
@@ -133,14 +138,14 @@ class Zips(OfLoads):
             self.assertEqual(archive.namelist()[:3], ["a/", "a/b/", "a/b/f"])
             self.assertIsNone(archive.testzip())
 
-    def packed(self, **files):
+    def packed(self, **files: typing.Union[str, bytes]) -> io.BytesIO:
         packed = io.BytesIO()
         with zipfile.ZipFile(packed, "w") as archive:
             for name, data in files.items():
                 archive.writestr(name.replace("_", "/"), data)
         return packed
 
-    def test_refused(self):
+    def test_refused(self) -> None:
         """A name that leads out of the tree, a file that is too long, and what is no zip."""
         for name in ("_a_b", "a__b"):
             self.assertEqual(Tree.from_zip(self.packed(**{name: b"x"})).to_dict(), {"/a/b": b"x"})
@@ -156,13 +161,13 @@ class Zips(OfLoads):
 
 
 class Texts(OfLoads):
-    def test_in_and_out(self):
+    def test_in_and_out(self) -> None:
         tree = self.kept(Tree.from_dict(FILES))
         again = self.kept(Tree.from_text(tree.tree(), 20))
         self.assertEqual((again.to_dict(), again.limit, again.calls), (FILES, 20, 0))
         self.assertEqual(Tree.from_text("tree\ndir /\n").to_dict(), {})
 
-    def test_begins_there(self):
+    def test_begins_there(self) -> None:
         """No call is made for it: the journal starts at the tree, whose seat 0 is this thread's."""
         for limits, header in zip(Limits, ("atomfs-journal 2", "atomfs-journal 3", "atomfs-journal 4")):
             with self.subTest(limits):
@@ -174,12 +179,12 @@ class Texts(OfLoads):
                 self.assertTrue(tree.journal().startswith(f"{header}\n{first}"))
                 self.assertEqual(tree.seat().number, 1)
 
-    def test_other_orders(self):
+    def test_other_orders(self) -> None:
         """Each directory comes before what is in it, and else lines may stand in any order."""
         tree = self.kept(Tree.from_text("tree\ndir /\nfile /b 62\ndir /%61\ndir /c\nfile /a/f -\n"))
         self.assertEqual((tree.tree(), tree.calls), ("tree\ndir /\ndir /a\nfile /a/f -\nfile /b 62\ndir /c\n", 0))
 
-    def test_limits(self):
+    def test_limits(self) -> None:
         """A tree of more nodes than the limit, a name and a file that the limits do not allow, and a limit that is none."""
         text = "tree\ndir /\ndir /a\ndir /a/b\ndir /c\n"
         self.assertEqual(len(self.kept(Tree.from_text(text, 4))), 4)
@@ -195,7 +200,7 @@ class Texts(OfLoads):
                 Tree.from_text(f"tree\ndir /\n{line}\n", limits=Limits.V1)
         self.assertRaises(ValueError, Tree.from_text, text, 0)
 
-    def test_a_long_text(self):
+    def test_a_long_text(self) -> None:
         """It may have more bytes than a script or a journal."""
         tree = self.kept(Tree(limits=Limits.V2))
         for name in "abcdefghi":
@@ -203,7 +208,7 @@ class Texts(OfLoads):
         self.assertGreater(len(tree.tree()), 16_777_216)
         self.assertEqual(self.kept(Tree.from_text(tree.tree(), limits=Limits.V2)).tree(), tree.tree())
 
-    def test_refused(self):
+    def test_refused(self) -> None:
         start = "tree\ndir /\n"
         for text, kind, words in (
             ("", ValueError, "line 1 of the text of a tree is missing"),
@@ -232,7 +237,7 @@ class Texts(OfLoads):
 class Housed(Tree):
     """A tree that has made a call before it is copied into."""
 
-    def __init__(self, *given, **more):
+    def __init__(self, *given: typing.Any, **more: typing.Any) -> None:
         super().__init__(*given, **more)
         self.mkdir("/home")
 
@@ -240,7 +245,7 @@ class Housed(Tree):
 class Seated(Tree):
     """A tree that has another seat from the beginning."""
 
-    def __init__(self, *given, **more):
+    def __init__(self, *given: typing.Any, **more: typing.Any) -> None:
         super().__init__(*given, **more)
         self.writer = self.seat("writer")
 
@@ -250,11 +255,11 @@ class Named(Tree):
 
     name = "none"
 
-    def __reduce__(self):
+    def __reduce__(self) -> typing.Any:
         return named, (super().__reduce__(), self.name)
 
 
-def named(reduced, name):
+def named(reduced: typing.Any, name: str) -> typing.Any:
     make, given = reduced
     tree = make(*given)
     tree.name = name
@@ -266,15 +271,19 @@ class Narrow(Tree):
 
     most = 10
 
-    def __init__(self, limit=0, **more):
+    def __init__(self, limit: int = 0, **more: typing.Any) -> None:
         super().__init__(self.most, **more)
 
 
-COPIES = (copy.copy, copy.deepcopy, lambda tree: pickle.loads(pickle.dumps(tree)))
+COPIES: typing.Tuple[typing.Callable[[typing.Any], typing.Any], ...] = (
+    copy.copy,
+    copy.deepcopy,
+    lambda tree: pickle.loads(pickle.dumps(tree)),
+)
 
 
 class Copies(OfLoads):
-    def test_begin_there(self):
+    def test_begin_there(self) -> None:
         """No call is made for a copy: its journal starts at the tree, whose seat 0 is this thread's, and another thread has a seat of its own."""
         tree = self.kept(Tree.from_dict(FILES, 50))
         tree.mkdir("/new")
@@ -291,7 +300,7 @@ class Copies(OfLoads):
             )
             self.assertFalse(tree.exists("/c"))
 
-    def test_keep(self):
+    def test_keep(self) -> None:
         tree = self.kept(Tree(journal=atomfs.LAST(7)))
         for copied in COPIES:
             other = self.kept(copied(tree))
@@ -300,7 +309,7 @@ class Copies(OfLoads):
             self.assertEqual((other.keeps, other.calls + other.calls_before), (atomfs.LAST(7), 20))
             self.assertLessEqual(other.calls, 8)
 
-    def test_under_way(self):
+    def test_under_way(self) -> None:
         """While a call is under way a copy has what has been committed."""
         tree = self.kept(Tree())
         seats = tree.seat(), tree.seat()
@@ -313,7 +322,7 @@ class Copies(OfLoads):
         for seat in seats:
             seat.finish()
 
-    def test_deep(self):
+    def test_deep(self) -> None:
         """More names than a path has, as a rename makes them."""
         tree = self.kept(Tree(limits=Limits.V2))
         tree.makedirs("/a" * 40)
@@ -322,11 +331,15 @@ class Copies(OfLoads):
         deep = self.kept(
             Tree.from_text("tree\ndir /\n" + "".join(f"dir {'/n' * depth}\n" for depth in range(1, 2_051)))
         )
+
+        def by_text(tree: Tree) -> Tree:
+            return Tree.from_text(tree.tree(), limits=tree.limits)
+
         for one in (tree, deep):
-            for copied in (*COPIES, lambda tree: Tree.from_text(tree.tree(), limits=tree.limits)):
+            for copied in (*COPIES, by_text):
                 self.assertEqual(self.kept(copied(one)).tree(), one.tree())
 
-    def test_subclasses(self):
+    def test_subclasses(self) -> None:
         """What a subclass does when it is made stays done, but for its tree; and it may reduce itself."""
         housed, seated, other = self.kept(Housed(20)), self.kept(Seated(20)), self.kept(Named(20))
         housed.rename("/home", "/h")
@@ -342,7 +355,7 @@ class Copies(OfLoads):
             self.assertEqual((three.name, type(three)), ("given", Named))
         self.assertEqual(list(self.kept(Housed.from_text("tree\ndir /\ndir /x\n"))), ["/", "/x"])
 
-    def test_refused(self):
+    def test_refused(self) -> None:
         tree = self.kept(Narrow())
         tree.makedirs("/a/b")
         self.addCleanup(setattr, Narrow, "most", Narrow.most)
@@ -358,24 +371,24 @@ class Copies(OfLoads):
 
 
 class Snapshots(OfLoads):
-    def test_restore(self):
+    def test_restore(self) -> None:
         """A tree is what it was, whatever became of it."""
         tree = self.kept(Tree.from_dict(FILES))
         snapshot = tree.snapshot()
         self.assertEqual(
             (repr(snapshot), len(snapshot), snapshot.to_dict()), ("<atomfs.Snapshot of 8 nodes, Limits.V3>", 8, FILES)
         )
-        changes = (
+        changes: typing.Tuple[typing.Callable[[], object], ...] = (
             lambda: None,
             lambda: tree.rmtree("/"),
             lambda: tree.write_bytes("/a/b/f", b"longer than it was"),
             lambda: tree.truncate("/a/b/f", 1),
             lambda: tree.write_bytes("/a/g", b"x"),
-            lambda: (tree.rmdir("/e"), tree.write_bytes("/e", b"a file")),
-            lambda: (tree.unlink("/a/g"), tree.makedirs("/a/g/h/i")),
+            lambda: (tree.rmdir("/e"), tree.write_bytes("/e", b"a file")),  # type: ignore[func-returns-value]
+            lambda: (tree.unlink("/a/g"), tree.makedirs("/a/g/h/i")),  # type: ignore[func-returns-value]
             lambda: tree.exchange("/a/b/f", "/z"),
             lambda: tree.rename("/a", "/e/a"),
-            lambda: [tree.makedirs(f"/new/{at}/d") for at in range(50)],
+            lambda: [tree.makedirs(f"/new/{at}/d") for at in range(50)],  # type: ignore[func-returns-value]
         )
         for at, change in enumerate(changes):
             with self.subTest(at):
@@ -389,15 +402,15 @@ class Snapshots(OfLoads):
         tree.restore(snapshot)
         self.assertEqual(tree.last_calls(1), ["truncate /a/g 0: ok"])
 
-    def test_calls(self):
+    def test_calls(self) -> None:
         """It makes calls for what has changed alone: two for a file that comes or has other bytes, one for what goes or is empty."""
         tree = self.kept(Tree.from_dict({f"d{at % 20}/{at}": b"bytes" for at in range(980)}))
         snapshot = tree.snapshot()
 
-        def calls_after(*changes):
+        def calls_after(*changes: typing.Any) -> int:
             for change, *given in changes:
                 change(*given)
-            before = tree.calls
+            before: int = tree.calls
             tree.restore(snapshot)
             return tree.calls - before
 
@@ -408,7 +421,7 @@ class Snapshots(OfLoads):
         )
         self.assertEqual(calls_after(), 0)
 
-    def test_a_full_tree(self):
+    def test_a_full_tree(self) -> None:
         """What goes makes room for what comes: of nodes, and in a directory."""
         tree = self.kept(Tree.from_dict({str(at): b"" for at in range(256)}, 257, limits=Limits.V2))
         snapshot = tree.snapshot()
@@ -417,7 +430,7 @@ class Snapshots(OfLoads):
         tree.restore(snapshot)
         self.assertEqual(tree.snapshot(), snapshot)
 
-    def test_refused(self):
+    def test_refused(self) -> None:
         """By other limits, of too many nodes, while a call is under way, and of a closed tree: the tree stays as it was."""
         tree = self.kept(Tree(3))
         self.assertEqual(Tree(limits=Limits.V1).snapshot().limits, Limits.V1)
@@ -441,7 +454,7 @@ class Snapshots(OfLoads):
         self.assertRaises(atomfs.ClosedError, closed.restore, snapshot)
         self.assertRaises(atomfs.ClosedError, closed.snapshot)
 
-    def test_values(self):
+    def test_values(self) -> None:
         """Snapshots are compared, are keys, and are pickled; one restores another tree too."""
         tree = self.kept(Tree.from_dict(FILES))
         one, other = tree.snapshot(), pickle.loads(pickle.dumps(tree.snapshot()))
@@ -455,7 +468,7 @@ class Snapshots(OfLoads):
         self.assertEqual(another.to_dict(), FILES)
         self.assertIsInstance(other, Snapshot)
 
-    def test_diff(self):
+    def test_diff(self) -> None:
         tree = self.kept(Tree.from_dict(FILES))
         before = tree.snapshot()
         self.assertEqual(atomfs.diff(before, tree), [])

@@ -1,4 +1,6 @@
 """What `atomfs.patch` keeps beside a tree: permissions, owners, times, numbers of nodes, symbolic links and pipes."""
+# A row has the answers of several calls, and some of these answer nothing.
+# mypy: disable-error-code="func-returns-value"
 import copy
 import errno
 import io
@@ -12,6 +14,7 @@ import shutil
 import stat
 import tempfile
 import unittest
+from typing import Any, List, Optional, Tuple
 
 import atomfs
 from test_patch import AT, OfPatch, descriptor, filled, number_of, text_of, written
@@ -20,16 +23,16 @@ from test_patch import AT, OfPatch, descriptor, filled, number_of, text_of, writ
 class Raw(io.FileIO):
     """A class of file objects that was made before any patch."""
 
-    def __init__(self, path, mode="r"):
+    def __init__(self, path: str, mode: str = "r") -> None:
         super().__init__(path, mode)
         self.count = 0
 
-    def readinto(self, buffer):
+    def readinto(self, buffer: Any) -> Optional[int]:
         self.count += 1
         return super().readinto(buffer)
 
 
-def modes(at):
+def modes(at: str) -> List[Tuple[str, str]]:
     """The kind and permissions of each node below a directory."""
     return sorted(
         (os.path.join(folder, name)[len(at) :], oct(os.lstat(os.path.join(folder, name)).st_mode))
@@ -39,7 +42,7 @@ def modes(at):
 
 
 class Times(OfPatch):
-    def test_clock(self):
+    def test_clock(self) -> None:
         """A clock that is given: what is made, written, renamed or removed has its time, and what is read has none."""
         clock = itertools.count(10**18, 10**9)
         with atomfs.patch(self.tree, at=AT, clock=lambda: next(clock)):
@@ -63,8 +66,8 @@ class Times(OfPatch):
             self.assertEqual((os.stat(AT), os.stat(f"{AT}/g")), before)
         self.assertGreaterEqual(next(clock), 10**18)
 
-    def test_set(self):
-        def row(at):
+    def test_set(self) -> None:
+        def row(at: str) -> object:
             os.utime(f"{at}/f", ns=(123_456_789, 2_000_000_001))
             found = os.stat(f"{at}/f")
             shutil.copy2(f"{at}/f", f"{at}/g")
@@ -73,7 +76,7 @@ class Times(OfPatch):
             with self.assertRaises(ValueError):
                 os.utime(f"{at}/f", (1, 2), ns=(1, 2))
             with self.assertRaises(TypeError):
-                os.utime(f"{at}/f", (1,))
+                os.utime(f"{at}/f", (1,))  # type: ignore[arg-type]
             return (
                 found.st_atime,
                 found.st_mtime,
@@ -84,7 +87,7 @@ class Times(OfPatch):
 
         self.compare(row)
 
-    def test_touched_by_the_tree(self):
+    def test_touched_by_the_tree(self) -> None:
         """Calls on the tree itself move times too."""
         clock = itertools.count(1)
         with atomfs.patch(self.tree, at=AT, clock=lambda: next(clock)):
@@ -105,10 +108,10 @@ class Times(OfPatch):
 
 
 class Modes(OfPatch):
-    def test_made(self):
+    def test_made(self) -> None:
         """What each call makes has the mode that it asks for, without the bits of the mask."""
 
-        def row(at):
+        def row(at: str) -> object:
             was = os.umask(0o027)
             try:
                 os.mkdir(f"{at}/n", 0o700)
@@ -126,16 +129,16 @@ class Modes(OfPatch):
 
         self.compare(row)
 
-    def test_access(self):
-        def row(at):
-            found = [os.access(f"{at}/f", mode) for mode in (os.F_OK, os.R_OK, os.W_OK, os.X_OK)]
+    def test_access(self) -> None:
+        def row(at: str) -> object:
+            found: List[object] = [os.access(f"{at}/f", mode) for mode in (os.F_OK, os.R_OK, os.W_OK, os.X_OK)]
             found.append(shutil.which("f", path=at))
             os.chmod(f"{at}/f", 0o755)
             return found, os.access(f"{at}/f", os.X_OK), shutil.which("f", path=at), os.access(f"{at}/d", os.X_OK)
 
         self.compare(row)
 
-    def test_enforced(self):
+    def test_enforced(self) -> None:
         """Permissions are asked only with `enforce`: of whoever runs this, as of any user but root."""
         for enforce in (False, True):
             with self.subTest(enforce), atomfs.patch(self.tree, at=AT, enforce=enforce):
@@ -159,7 +162,7 @@ class Modes(OfPatch):
                 self.assertEqual(found, (due, None, due, due, due, None, due, due))
                 self.assertEqual(os.access(f"{AT}/f", os.W_OK), not enforce)
 
-    def test_owners(self):
+    def test_owners(self) -> None:
         with atomfs.patch(self.tree, at=AT):
             written(f"{AT}/f")
             os.chown(f"{AT}/f", 17, -1)
@@ -172,10 +175,10 @@ class Modes(OfPatch):
 
 
 class Nodes(OfPatch):
-    def test_numbers(self):
+    def test_numbers(self) -> None:
         """A number goes with its node, and another node at the path has another."""
 
-        def row(at):
+        def row(at: str) -> object:
             first = os.stat(f"{at}/f")
             os.rename(f"{at}/f", f"{at}/d/f")
             os.rename(f"{at}/d", f"{at}/e")
@@ -193,10 +196,10 @@ class Nodes(OfPatch):
 
         self.compare(row)
 
-    def test_watched_file(self):
+    def test_watched_file(self) -> None:
         """A handler of logs sees that its file was rotated."""
 
-        def row(at):
+        def row(at: str) -> object:
             handler = logging.handlers.WatchedFileHandler(f"{at}/log")
             for text in ("one", "two"):
                 handler.emit(logging.makeLogRecord({"msg": text}))
@@ -207,7 +210,7 @@ class Nodes(OfPatch):
 
         self.compare(row)
 
-    def test_copies(self):
+    def test_copies(self) -> None:
         """Snapshots, copies and pickles have it too, and what becomes of one is nothing of the other."""
         with atomfs.patch(self.tree, at=AT):
             filled(AT)
@@ -231,7 +234,7 @@ class Nodes(OfPatch):
                 os.chmod(f"{AT}/d/g", 0)
                 os.unlink(f"{AT}/l")
 
-    def test_deep(self):
+    def test_deep(self) -> None:
         """Nothing goes as deep as the tree."""
         with atomfs.patch(self.tree, at=AT):
             path = AT + "/a" * 1_500
@@ -244,7 +247,7 @@ class Nodes(OfPatch):
 
 
 class Pipes(OfPatch):
-    def test_pipes(self):
+    def test_pipes(self) -> None:
         """Each row does the same on the disk."""
         for at, row in enumerate(
             (
@@ -296,7 +299,7 @@ class Pipes(OfPatch):
             with self.subTest(at):
                 self.compare(row)
 
-    def test_no_copy(self):
+    def test_no_copy(self) -> None:
         """`shutil` copies no pipe, and says so."""
         with atomfs.patch(self.tree, at=AT):
             filled(AT)
@@ -306,7 +309,7 @@ class Pipes(OfPatch):
             with self.assertRaisesRegex(shutil.Error, "is a named pipe"):
                 shutil.copytree(f"{AT}/d", f"{AT}/e")
 
-    def test_no_bytes(self):
+    def test_no_bytes(self) -> None:
         """Whoever opens one is refused as by Linux where nobody reads, and no entry of the journal says that it was emptied."""
         with atomfs.patch(self.tree, at=AT):
             os.mkfifo(f"{AT}/p")
@@ -316,7 +319,7 @@ class Pipes(OfPatch):
             self.assertEqual(number_of(pathlib.Path(AT, "p").read_text), errno.ENXIO)
             self.assertFalse([one for one in self.tree.last_calls(self.tree.calls - before) if "truncate" in one])
 
-    def test_kept(self):
+    def test_kept(self) -> None:
         """Copies, snapshots and pickles have it, and a directory that is made of the tree."""
         with tempfile.TemporaryDirectory() as disk, atomfs.patch(self.tree, at=AT):
             os.mkfifo(f"{AT}/p", 0o600)
@@ -332,7 +335,7 @@ class Pipes(OfPatch):
             self.tree.restore(snapshot)
             self.assertTrue(stat.S_ISFIFO(os.stat(f"{AT}/p").st_mode))
 
-    def test_devices(self):
+    def test_devices(self) -> None:
         """A tree has none, and neither has it sockets."""
         with atomfs.patch(self.tree, at=AT):
             for kind in (stat.S_IFCHR, stat.S_IFBLK, stat.S_IFSOCK):
@@ -341,7 +344,7 @@ class Pipes(OfPatch):
 
 
 class Links(OfPatch):
-    def test_links(self):
+    def test_links(self) -> None:
         """Each row does the same on the disk."""
         for at, row in enumerate(
             (
@@ -447,7 +450,7 @@ class Links(OfPatch):
             with self.subTest(at):
                 self.compare(row)
 
-    def test_one_call(self):
+    def test_one_call(self) -> None:
         """A link is one call of the journal, and a path that leads through it asks the tree for where it leads alone."""
         with atomfs.patch(self.tree, at=AT):
             filled(AT)
@@ -461,7 +464,7 @@ class Links(OfPatch):
                 ["mknod /l: ok", "stat /d/g: stat file 4", "rename /l /m: ok", "unlink /m: ok"],
             )
 
-    def test_over_the_border(self):
+    def test_over_the_border(self) -> None:
         """A link of the tree that leads to the disk, and one of the disk that would lead to the tree."""
         with tempfile.TemporaryDirectory() as disk, atomfs.patch(self.tree, at=AT):
             written(f"{disk}/f", "disk")
@@ -479,10 +482,10 @@ class Links(OfPatch):
 
 
 class Objects(OfPatch):
-    def test_classes_of_files(self):
+    def test_classes_of_files(self) -> None:
         """Classes that are made of `io.FileIO`, before a patch and within it, work on the tree and leave nothing on the disk."""
 
-        def row(at):
+        def row(at: str) -> object:
             class Late(io.FileIO):
                 pass
 
@@ -505,7 +508,7 @@ class Objects(OfPatch):
                 self.assertEqual((file.write(b"x"), type(file)), (1, Raw))
             self.assertEqual((os.listdir(disk), self.tree.readdir("/")), (["f"], ["d", "f"]))
 
-    def test_descriptors(self):
+    def test_descriptors(self) -> None:
         """Their numbers are those that the system would give, and no file of the system has them."""
         with atomfs.patch(self.tree, at=AT):
             filled(AT)
@@ -522,10 +525,10 @@ class Objects(OfPatch):
             with descriptor(os.devnull, os.O_RDONLY) as number:
                 self.assertEqual(number, lowest)
 
-    def test_of_the_system(self):
+    def test_of_the_system(self) -> None:
         """What asks the system of a descriptor hears what it says of a file; a removed directory has no entries."""
 
-        def row(at):
+        def row(at: str) -> object:
             with open(f"{at}/f") as file, descriptor(f"{at}/d/e", os.O_RDONLY) as folder:
                 os.rmdir(f"{at}/d/e")
                 found = select.select([file], [file], [], 0) == ([file], [file], [])
@@ -538,10 +541,10 @@ class Objects(OfPatch):
             self.assertEqual((usage.used, usage.total), (5 * 2**31, 10 * 2**31))
             self.assertEqual((limits.f_files, limits.f_ffree, limits.f_namemax), (10, 5, 255))
 
-    def test_buffers(self):
+    def test_buffers(self) -> None:
         """As much of a file is in a buffer as `st_blksize` says."""
 
-        def row(at):
+        def row(at: str) -> object:
             with open(f"{at}/n", "w") as file:
                 found = []
                 for count in (9_000, 100_000):
@@ -551,7 +554,7 @@ class Objects(OfPatch):
 
         self.compare(row)
 
-    def test_dots(self):
+    def test_dots(self) -> None:
         """What a last dot means to each call."""
         for at, row in enumerate(
             (
@@ -572,7 +575,7 @@ class Objects(OfPatch):
                 lambda at: (os.close(os.open(f"{at}/f", os.O_RDONLY | os.O_TRUNC)), os.stat(f"{at}/f").st_size),
                 lambda at: os.open(f"{at}/d", os.O_RDONLY | os.O_TRUNC),
                 lambda at: open(f"{at}/f/.."),
-                lambda at: open(f"{at}/f", "rb", 0).read(None),
+                lambda at: open(f"{at}/f", "rb", 0).read(None),  # type: ignore[arg-type]
                 lambda at: (lambda file: (os.fsync(file), os.fdatasync(file), file.close()))(open(f"{at}/f", "a")),
                 lambda at: repr(open(f"{at}/f", "rb", 0)),
             )

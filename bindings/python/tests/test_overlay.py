@@ -16,17 +16,18 @@ import tempfile
 import threading
 import unittest
 import unittest.mock
+from typing import Any, Callable, Dict, Iterator, List, Tuple
 
 import atomfs
 import test_drawn
-from test_drawn import ABOVE, CALLS, RUNS, Opened, a_call, a_call_of_descriptors, answer, below
+from test_drawn import ABOVE, CALLS, RUNS, Opened, Outcome, a_call, a_call_of_descriptors, answer, below
 
 # A directory of memory, if there is one.
 FOLDER = "/dev/shm" if os.path.isdir("/dev/shm") else None
 OF_FILES = {"a/b/f": "text", "a/g": "other", "h": "", "data/one.txt": "1\n2\n"}
 
 
-def fill(top, files=OF_FILES):
+def fill(top: str, files: Dict[str, str] = OF_FILES) -> None:
     """Makes files below a directory of the disk, with times of long ago."""
     for path, text in files.items():
         made = pathlib.Path(top, path)
@@ -35,9 +36,9 @@ def fill(top, files=OF_FILES):
         os.utime(made, (1000, 2000))
 
 
-def all_of(top):
+def all_of(top: str) -> Dict[str, object]:
     """What is below a directory of the disk: each path with its kind, permissions, owner, times of changes, number and content."""
-    found = {}
+    found: Dict[str, object] = {}
     for folder, folders, files in os.walk(top):
         for name in (".", *folders, *files):
             path = os.path.join(folder, name)
@@ -60,7 +61,7 @@ def all_of(top):
 class OfOverlay(unittest.TestCase):
     """A test with a directory of the disk, which has to be the same at its end."""
 
-    def setUp(self):
+    def setUp(self) -> None:
         folder = tempfile.TemporaryDirectory(dir=FOLDER, prefix="atomfs-")
         self.addCleanup(folder.cleanup)
         self.top = os.path.realpath(folder.name)
@@ -71,7 +72,7 @@ class OfOverlay(unittest.TestCase):
         self.addCleanup(self.tree.close)
 
     @contextlib.contextmanager
-    def overlaid(self, **more):
+    def overlaid(self, **more: Any) -> Iterator[atomfs.patch]:
         """A patch with the directory below its tree; the disk stays as it is, and the journal is lawful."""
         before = all_of(self.top)
         with atomfs.patch(self.tree, overlay=self.at, **more) as patched:
@@ -79,7 +80,7 @@ class OfOverlay(unittest.TestCase):
         self.assertEqual(all_of(self.top), before)
         self.assertEqual(self.tree.check(), "lawful")
 
-    def seats(self):
+    def seats(self) -> Tuple[List[str], List[str]]:
         """The calls so far by seats: those of the overlay, and those of the program."""
         lines = self.tree.journal().splitlines()
         own = next(
@@ -90,7 +91,7 @@ class OfOverlay(unittest.TestCase):
 
 
 class Reads(OfOverlay):
-    def test_reads_and_changes(self):
+    def test_reads_and_changes(self) -> None:
         with self.overlaid() as patched:
             self.assertEqual(patched.at, pathlib.Path(self.at))
             self.assertEqual(sorted(os.listdir(self.at)), ["a", "data", "h"])
@@ -108,7 +109,7 @@ class Reads(OfOverlay):
             self.assertEqual(sorted(os.listdir(self.at)), ["a", "new"])
             self.assertRaises(FileNotFoundError, os.stat, f"{self.at}/h")
 
-    def test_stat(self):
+    def test_stat(self) -> None:
         """Permissions, times, owners and sizes are those of the disk, also before a file is opened."""
         os.chmod(f"{self.at}/a/g", 0o4751)
         wanted = {path: os.stat(f"{self.at}/{path}") for path in ("a", "a/g", "h", "data/one.txt")}
@@ -123,7 +124,7 @@ class Reads(OfOverlay):
                 self.assertEqual(sorted((one.name, one.is_dir()) for one in entries), [("b", True), ("g", False)])
         self.assertEqual(self.tree.stat("/a/g").size, 5)
 
-    def test_journal(self):
+    def test_journal(self) -> None:
         """A call of the program is one call of its seat. What comes from the disk is made by the overlay's, and once."""
         with self.overlaid():
             for _ in range(2):
@@ -135,7 +136,7 @@ class Reads(OfOverlay):
         self.assertEqual(of_overlay, [*names, "write /a/b/f 0 74657874", "truncate /a/g 5"])
         self.assertEqual(of_program, [*["stat /a/b/f", "read /a/b/f 0 9"] * 2, "stat /a/g"])
 
-    def test_of_the_tree(self):
+    def test_of_the_tree(self) -> None:
         """The tree's own methods read the disk too, while the patch lasts, and calls that begin on seats do."""
         with self.overlaid():
             self.assertEqual(self.tree.read("/a/b/f"), b"text")
@@ -153,7 +154,7 @@ class Reads(OfOverlay):
             seat.begin.rmdir("/a/b/data")
             self.assertRaisesRegex(OSError, "not empty", seat.finish)
 
-    def test_large(self):
+    def test_large(self) -> None:
         """A file of several pieces, and a directory of many names."""
         data = random.Random(1).randbytes(3_000_001)
         pathlib.Path(self.at, "large").write_bytes(data)
@@ -165,22 +166,22 @@ class Reads(OfOverlay):
             self.assertEqual(pathlib.Path(self.at, "large").read_bytes(), data)
             self.assertEqual(len(os.listdir(f"{self.at}/many")), 600)
 
-    def test_imports(self):
+    def test_imports(self) -> None:
         """Modules come from there, and their byte code goes to the tree."""
         pathlib.Path(self.at, "module_of_overlay.py").write_text("VALUE = 17\n")
         sys.path.insert(0, self.at)
         self.addCleanup(sys.path.remove, self.at)
-        self.addCleanup(sys.modules.pop, "module_of_overlay", None)
+        self.addCleanup(sys.modules.pop, "module_of_overlay", None)  # type: ignore[call-arg]
         with self.overlaid(), unittest.mock.patch.object(sys, "dont_write_bytecode", False):
             self.assertEqual(importlib.import_module("module_of_overlay").VALUE, 17)
             self.assertIn("__pycache__", os.listdir(self.at))
 
-    def test_threads(self):
+    def test_threads(self) -> None:
         """Several threads that look at one directory first get the same."""
         fill(self.at, {f"many/{number}": str(number) for number in range(20)})
         found = []
 
-        def reads():
+        def reads() -> None:
             found.append([pathlib.Path(self.at, "many", str(number)).read_text() for number in range(20)])
 
         with self.overlaid():
@@ -195,7 +196,7 @@ class Reads(OfOverlay):
 
 
 class Layers(OfOverlay):
-    def test_elsewhere(self):
+    def test_elsewhere(self) -> None:
         """The tree stands at another directory, which need not be there."""
         with self.overlaid(at="/sandbox_of_overlay") as patched:
             self.assertEqual((str(patched.at), str(patched.overlay)), ("/sandbox_of_overlay", self.at))
@@ -203,7 +204,7 @@ class Layers(OfOverlay):
             pathlib.Path("/sandbox_of_overlay/a/g").write_text("changed")
             self.assertEqual(pathlib.Path(self.at, "a/g").read_text(), "other")
 
-    def test_own_content(self):
+    def test_own_content(self) -> None:
         """What the tree has hides what is on the disk; of two directories the names of both are there."""
         self.tree.makedirs("/a/b")
         self.tree.write_text("/a/g", "of the tree")
@@ -214,7 +215,7 @@ class Layers(OfOverlay):
             self.assertEqual(pathlib.Path(self.at, "a/b/f").read_text(), "text")
             self.assertEqual(os.listdir(f"{self.at}/h"), [])
 
-    def test_again(self):
+    def test_again(self) -> None:
         """A second patch goes on: what was removed stays away, and what has not come yet still comes."""
         with self.overlaid() as patched:
             os.remove(f"{self.at}/h")
@@ -225,7 +226,7 @@ class Layers(OfOverlay):
             self.assertRaises(FileNotFoundError, os.stat, f"{self.at}/h")
         self.assertEqual([line for line in self.tree.journal().splitlines() if line[:1] == "#"], ["# seat 1 overlay"])
 
-    def test_copy_up(self):
+    def test_copy_up(self) -> None:
         """All comes at once, so that snapshots and copies have it; without it they have what has come."""
         with self.overlaid() as patched:
             os.stat(f"{self.at}/a")
@@ -240,7 +241,7 @@ class Layers(OfOverlay):
             patched.copy_up(f"{self.at}/none")
         self.assertRaisesRegex(RuntimeError, "is not there", patched.copy_up)
 
-    def test_restore(self):
+    def test_restore(self) -> None:
         """A tree goes back to a snapshot, with what had not come by then."""
         with self.overlaid():
             first = self.tree.snapshot()
@@ -258,7 +259,7 @@ class Layers(OfOverlay):
             self.tree.restore(second)
             self.assertEqual(os.listdir(f"{self.at}/data"), ["one.txt"])
 
-    def test_copies(self):
+    def test_copies(self) -> None:
         """A copy is a tree of its own, and reads nothing of the disk."""
         with self.overlaid():
             self.assertEqual(len(os.listdir(self.at)), 3)
@@ -267,7 +268,7 @@ class Layers(OfOverlay):
                 other.write_text("/a/g", "of the copy")
             self.assertEqual(self.tree.read_text("/a/g"), "other")
 
-    def test_in_another_patch(self):
+    def test_in_another_patch(self) -> None:
         """The directory may be one of another tree."""
         with atomfs.Tree.from_dict({"p/f": "of the first"}) as first, atomfs.patch(first, at="/sandbox_of_overlay"):
             with atomfs.patch(self.tree, overlay="/sandbox_of_overlay/p") as patched:
@@ -276,7 +277,7 @@ class Layers(OfOverlay):
                 self.assertEqual(first.read_text("/p/f"), "of the first")
             self.assertEqual(pathlib.Path("/sandbox_of_overlay/p/f").read_text(), "of the first")
 
-    def test_ends(self):
+    def test_ends(self) -> None:
         """After the patch the tree is as far as it has come; another overlay is refused meanwhile."""
         with self.overlaid():
             with self.assertRaisesRegex(RuntimeError, "has an overlay already"):
@@ -287,7 +288,7 @@ class Layers(OfOverlay):
             self.assertRaises(error, atomfs.patch(self.tree, overlay=path).__enter__)
         self.assertEqual(os.listdir(f"{self.at}/data"), ["one.txt"])
 
-    def test_closed(self):
+    def test_closed(self) -> None:
         with atomfs.patch(overlay=self.at) as patched:
             os.listdir(self.at)
             patched.tree.close()
@@ -295,7 +296,7 @@ class Layers(OfOverlay):
 
 
 class Links(OfOverlay):
-    def setUp(self):
+    def setUp(self) -> None:
         super().setUp()
         os.symlink("a/b", f"{self.at}/l")
         os.symlink("../h", f"{self.at}/a/up")
@@ -305,7 +306,7 @@ class Links(OfOverlay):
         os.symlink(f"{self.top}/outside", f"{self.at}/away")
         pathlib.Path(self.top, "outside").write_text("of the disk")
 
-    def test_first_calls(self):
+    def test_first_calls(self) -> None:
         """A link that nobody has looked at leads on, whichever the first call is."""
         for path, text in (("l/f", "text"), ("l/whole/one.txt", "1\n2\n"), ("a/up", ""), ("l/../g", "other")):
             with self.subTest(path), atomfs.Tree() as self.tree, self.overlaid():
@@ -315,7 +316,7 @@ class Links(OfOverlay):
             self.addCleanup(os.chdir, "/")
             self.assertEqual((os.getcwd(), os.listdir()), (f"{self.at}/data", ["one.txt"]))
 
-    def test_links(self):
+    def test_links(self) -> None:
         wanted = {path: os.lstat(f"{self.at}/{path}") for path in ("l", "a/up", "round")}
         with self.overlaid():
             for path, due in wanted.items():
@@ -333,7 +334,7 @@ class Links(OfOverlay):
             os.symlink("data", f"{self.at}/l")
             self.assertEqual(os.listdir(f"{self.at}/l"), ["one.txt"])
 
-    def test_plain_again(self):
+    def test_plain_again(self) -> None:
         """A tree without a link has none of the disk either, once the way is known."""
         for path in ("l", "a/up", "a/b/whole", "a/dangling", "round", "away"):
             os.remove(f"{self.at}/{path}")
@@ -343,12 +344,12 @@ class Links(OfOverlay):
 
 
 class Refused(OfOverlay):
-    def fails(self, number, call, *words):
+    def fails(self, number: int, call: Callable[..., object], *words: object) -> None:
         with self.assertRaises(OSError) as raised:
             call(*words)
         self.assertEqual((raised.exception.errno, raised.exception.filename), (number, words[0]))
 
-    def test_kinds(self):
+    def test_kinds(self) -> None:
         """A socket and a pipe are there, but are not opened; they are removed as others."""
         with contextlib.closing(socket.socket(socket.AF_UNIX)) as made:
             made.bind(f"{self.at}/socket")
@@ -371,7 +372,7 @@ class Refused(OfOverlay):
             os.remove(f"{self.at}/socket")
             self.assertEqual(sorted(os.listdir(self.at)), ["a", "data", "h"])
 
-    def test_unreadable(self):
+    def test_unreadable(self) -> None:
         """What the process may not read raises EACCES, at each try; what needs no bytes is done."""
         os.chmod(f"{self.at}/a/g", 0)
         os.chmod(f"{self.at}/data", 0)
@@ -406,7 +407,7 @@ class Refused(OfOverlay):
             os.chmod(f"{self.at}/{name}", 0o755)
         self.assertEqual(self.tree.check(), "lawful")
 
-    def test_enforced(self):
+    def test_enforced(self) -> None:
         """Permissions of the disk bind whoever runs it, if they are enforced."""
         os.chmod(f"{self.at}/a", 0o555)
         os.chmod(f"{self.at}/h", 0o200)
@@ -416,7 +417,7 @@ class Refused(OfOverlay):
             self.fails(errno.EACCES, open, f"{self.at}/h")
             pathlib.Path(self.at, "h").write_text("new")
 
-    def test_limits(self):
+    def test_limits(self) -> None:
         """What is larger than the tree's limits is refused, and the rest is there."""
         for limits in (atomfs.Limits.V1, atomfs.Limits.V2):
             with self.subTest(limits), atomfs.Tree(limits=limits) as self.tree:
@@ -433,7 +434,7 @@ class Refused(OfOverlay):
             self.fails(errno.ENAMETOOLONG, os.listdir, f"{self.at}/a")
             self.assertEqual(pathlib.Path(self.at, "data/one.txt").read_text(), "1\n2\n")
 
-    def test_full(self):
+    def test_full(self) -> None:
         """A tree without room for the names says so, and goes on once there is room."""
         with atomfs.Tree(6) as self.tree, self.overlaid():
             os.listdir(f"{self.at}/a")
@@ -442,7 +443,7 @@ class Refused(OfOverlay):
             self.assertEqual(os.listdir(f"{self.at}/a/b"), ["f"])
             self.assertEqual(pathlib.Path(self.at, "a/b/f").read_text(), "text")
 
-    def test_gone(self):
+    def test_gone(self) -> None:
         """What goes away on the disk before it has come is gone from the tree too; what has come stays."""
         fill(self.at, {"gone/f": "f", "gone/g": "g", "kind": "k", "stays": "s", "cut": "123456"})
         with atomfs.patch(self.tree, overlay=self.at) as patched, patched.tree.lock:
@@ -465,14 +466,14 @@ class Refused(OfOverlay):
             self.assertEqual(pathlib.Path(self.at, "cut").read_text(), "12")
         self.assertEqual(self.tree.check(), "lawful")
 
-    def test_programs(self):
+    def test_programs(self) -> None:
         """A program finds no tree where a directory of the disk is."""
         with self.overlaid(processes=True):
             with self.assertRaises(OSError) as raised:
                 subprocess.run(["true"], cwd=self.at)
             self.assertEqual(raised.exception.errno, errno.ENOTSUP)
 
-    def test_programs_elsewhere(self):
+    def test_programs_elsewhere(self) -> None:
         """Where none is, it finds all that is on the disk, with the changes."""
         elsewhere = tempfile.TemporaryDirectory(prefix="atomfs-")
         self.addCleanup(elsewhere.cleanup)
@@ -481,7 +482,7 @@ class Refused(OfOverlay):
             told = subprocess.run(["cat", "a/g", "a/b/f"], cwd=patched.at, capture_output=True, text=True)
             self.assertEqual(told.stdout, "changedtext")
 
-    def test_waits(self):
+    def test_waits(self) -> None:
         """Where what is to come needs a node that a pending call holds, the call waits, and comes later."""
         with self.overlaid():
             os.listdir(self.at)
@@ -497,9 +498,9 @@ class Refused(OfOverlay):
                     waits.append(error)
             self.assertTrue(waits)
             seat.finish()
-            for error in waits:
+            for waited in waits:
                 with contextlib.suppress(OSError):
-                    error.seat.finish(wait=True)
+                    waited.seat.finish(wait=True)
             self.assertEqual(pathlib.Path(self.at, "a/g").read_text(), "other")
             self.assertEqual(pathlib.Path(self.at, "a/data/one.txt").read_text(), "1\n2\n")
 
@@ -507,7 +508,7 @@ class Refused(OfOverlay):
 class Drawn(unittest.TestCase):
     """Drawn calls over a directory of the disk and in a copy of it: the answers are the same, and so is what is there at the end."""
 
-    def lower(self, draw, at):
+    def lower(self, draw: random.Random, at: str) -> None:
         """Makes what is on the disk before: the same at each place."""
         os.makedirs(f"{at}/{ABOVE}")
         top = f"{at}/{ABOVE}"
@@ -534,12 +535,12 @@ class Drawn(unittest.TestCase):
         for folder in reversed(folders):
             os.utime(folder, (10, draw.randrange(10**6)))
 
-    def file(self, draw, path):
+    def file(self, draw: random.Random, path: str) -> None:
         pathlib.Path(path).write_text("y" * draw.randrange(9))
         os.chmod(path, draw.choice((0o644, 0o600, 0o755)))
         os.utime(path, (10, draw.randrange(10**6)))
 
-    def both(self, seed, run):
+    def both(self, seed: int, run: Callable[[str], Outcome]) -> List[Outcome]:
         """What a run finds on the disk, and over a directory that is the same."""
         with tempfile.TemporaryDirectory(dir=FOLDER, prefix="atomfs-") as folder:
             found = []
@@ -557,13 +558,13 @@ class Drawn(unittest.TestCase):
                 self.assertEqual(all_of(at), before)
             return found
 
-    def test_runs(self):
+    def test_runs(self) -> None:
         self.addCleanup(os.chdir, os.getcwd())
         for seed in range(RUNS):
             draw = random.Random(seed)
             calls = [a_call(draw) for _ in range(CALLS)]
 
-            def run(at):
+            def run(at: str) -> Outcome:
                 os.chdir(f"{at}/{ABOVE}")
                 answers = [answer(f"{at}/{ABOVE}", call) for call in calls]
                 os.chdir(f"{at}/{ABOVE}")
@@ -575,12 +576,12 @@ class Drawn(unittest.TestCase):
                     self.assertEqual(other, one, f"call {number} of seed {seed}: {call}, after {calls[:number]}")
                 self.assertEqual(found[1], wanted[1])
 
-    def test_descriptors(self):
+    def test_descriptors(self) -> None:
         for seed in range(RUNS):
             draw = random.Random(seed)
             calls = [a_call_of_descriptors(draw) for _ in range(3 * CALLS)]
 
-            def run(at):
+            def run(at: str) -> Outcome:
                 opened = Opened(f"{at}/{ABOVE}")
                 try:
                     return [opened.answer(call) for call in calls], below(f"{at}/{ABOVE}")

@@ -1,4 +1,6 @@
 """A tree at a directory of the disk: each row does the same as in a directory of the disk itself, and nothing comes to the disk."""
+# A row has the answers of several calls, and some of these answer nothing.
+# mypy: disable-error-code="func-returns-value"
 import bz2
 import codecs
 import contextlib
@@ -35,11 +37,14 @@ import unittest
 import zipfile
 from multiprocessing.util import spawnv_passfds
 from os import listdir as captured
+from typing import IO, Any, Callable, Dict, Iterator, List, Optional, Tuple
 
 import atomfs
 from atomfs import _table
 
 AT = "/sandbox_of_atomfs"
+# What a row of the tables does in a directory, and what it answers.
+Row = Callable[[str], object]
 
 
 class Kept:
@@ -47,28 +52,30 @@ class Kept:
 
     listed = staticmethod(os.listdir)
 
-    def of_default(self, path, listed=os.listdir, *, opened=open):
+    def of_default(
+        self, path: str, listed: Callable[[str], List[str]] = os.listdir, *, opened: object = open
+    ) -> Tuple[List[str], object]:
         return listed(path), opened
 
 
-def of_default(path, *, listed=os.listdir):
+def of_default(path: str, *, listed: Callable[[str], List[str]] = os.listdir) -> List[str]:
     return listed(path)
 
 
-def written(path, text="text"):
+def written(path: str, text: str = "text") -> str:
     with open(path, "w") as file:
         file.write(text)
     return path
 
 
-def text_of(path):
+def text_of(path: str) -> str:
     with open(path) as file:
         return file.read()
 
 
-def all_of(at):
+def all_of(at: str) -> List[object]:
     """What is below a path, with the bytes of files."""
-    found = []
+    found: List[object] = []
     for folder, folders, files in os.walk(at):
         folders.sort()
         found += [f"{folder}/{name}/" for name in folders]
@@ -79,7 +86,7 @@ def all_of(at):
 
 
 @contextlib.contextmanager
-def descriptor(path, flags=os.O_RDWR):
+def descriptor(path: str, flags: int = os.O_RDWR) -> Iterator[int]:
     number = os.open(path, flags)
     try:
         yield number
@@ -87,24 +94,24 @@ def descriptor(path, flags=os.O_RDWR):
         os.close(number)
 
 
-def with_descriptor(work, flags=os.O_RDWR, name="f"):
+def with_descriptor(work: Callable[[int], object], flags: int = os.O_RDWR, name: str = "f") -> Row:
     """A row: what a function answers of a descriptor, and what is below the directory then."""
 
-    def row(at):
+    def row(at: str) -> object:
         with descriptor(f"{at}/{name}", flags) as number:
             return work(number), os.lseek(number, 0, os.SEEK_CUR) if name == "f" else None
 
     return row
 
 
-def of_stat(found):
+def of_stat(found: os.stat_result) -> Tuple[int, Optional[int]]:
     return stat.S_IFMT(found.st_mode), found.st_size if stat.S_ISREG(found.st_mode) else None
 
 
-def in_folder(work):
+def in_folder(work: Row) -> Row:
     """A row that is run from a directory of the place."""
 
-    def row(at):
+    def row(at: str) -> object:
         before = os.getcwd()
         os.chdir(f"{at}/d")
         try:
@@ -115,30 +122,31 @@ def in_folder(work):
     return row
 
 
-def duplicate(number):
+def duplicate(number: int) -> int:
     other = os.dup(number)
     os.write(other, b"ab")
     os.close(other)
     return os.write(number, b"cd")
 
 
-def into_buffers(function):
-    def work(*given):
+def into_buffers(function: Callable[..., object]) -> Callable[..., object]:
+    def work(*given: object) -> object:
         first, second = bytearray(2), bytearray(9)
         return function(given[0], [first, second], *given[1:]), first, second
 
     return work
 
 
-def no_links(at):
+def no_links(at: str) -> Optional[int]:
     try:
         os.readlink(f"{at}/f")
     except OSError as error:
         return error.errno
+    return None
 
 
-def sent(function):
-    def row(at):
+def sent(function: Callable[..., object]) -> Row:
+    def row(at: str) -> object:
         written(f"{at}/to", "")
         with descriptor(f"{at}/f") as source, descriptor(f"{at}/to") as target:
             function(source, target)
@@ -147,8 +155,8 @@ def sent(function):
     return row
 
 
-def renamed(function):
-    def row(at):
+def renamed(function: Callable[..., object]) -> Row:
+    def row(at: str) -> object:
         function(f"{at}/f", f"{at}/d/g")
         function(f"{at}/d", f"{at}/e")
         return all_of(at)
@@ -156,7 +164,7 @@ def renamed(function):
     return row
 
 
-def scanned(at):
+def scanned(at: str) -> object:
     with os.scandir(f"{at}/d") as entries:
         found = sorted(
             (one.name, one.path, os.fspath(one), one.is_dir(), one.is_file(), one.is_symlink(), of_stat(one.stat()))
@@ -166,25 +174,27 @@ def scanned(at):
         return found, sorted(one.path for one in entries), sorted(one.name for one in os.scandir(os.fsencode(at)))
 
 
-def closed(at):
+def closed(at: str) -> Optional[int]:
     number = os.open(f"{at}/f", os.O_RDONLY)
     os.close(number)
     try:
         os.read(number, 1)
     except OSError as error:
         return error.errno
+    return None
 
 
-def closed_range(at):
+def closed_range(at: str) -> Optional[int]:
     number = os.open(f"{at}/f", os.O_RDONLY)
     os.closerange(number, number + 1)
     try:
         os.fstat(number)
     except OSError as error:
         return error.errno
+    return None
 
 
-def packed(at):
+def packed(at: str) -> object:
     with zipfile.ZipFile(f"{at}/z.zip", "w") as archive:
         archive.write(f"{at}/d/g", "g")
         archive.writestr("x/y", "written")
@@ -193,7 +203,7 @@ def packed(at):
         return archive.namelist(), all_of(f"{at}/out")
 
 
-def tarred(at):
+def tarred(at: str) -> object:
     with tarfile.open(f"{at}/t.tar.gz", "w:gz") as archive:
         archive.add(f"{at}/d", "d")
     with tarfile.open(f"{at}/t.tar.gz") as archive:
@@ -201,8 +211,8 @@ def tarred(at):
         return archive.getnames(), all_of(f"{at}/out")
 
 
-def compressed(module):
-    def row(at):
+def compressed(module: Any) -> Row:
+    def row(at: str) -> object:
         with module.open(f"{at}/z", "wt") as file:
             file.write("text")
         with module.open(f"{at}/z", "rt") as file:
@@ -211,26 +221,26 @@ def compressed(module):
     return row
 
 
-def archived(at):
+def archived(at: str) -> object:
     for kind in ("zip", "gztar"):
         shutil.make_archive(f"{at}/e", kind, f"{at}/d")
     return sorted(os.listdir(at)), zipfile.ZipFile(f"{at}/e.zip").namelist()
 
 
-def unpacked(at):
+def unpacked(at: str) -> object:
     shutil.make_archive(f"{at}/e", "zip", f"{at}/d")
     shutil.unpack_archive(f"{at}/e.zip", f"{at}/out")
     return all_of(f"{at}/out")
 
 
-def of_file_objects(at):
+def of_file_objects(at: str) -> object:
     with open(f"{at}/f", "rb") as source, open(f"{at}/to", "wb") as target:
         shutil.copyfileobj(source, target)
     return text_of(f"{at}/to")
 
 
-def copied(function):
-    def row(at):
+def copied(function: Callable[..., object]) -> Row:
+    def row(at: str) -> object:
         function(f"{at}/f", f"{at}/to")
         function(f"{at}/f", f"{at}/d/g")
         return all_of(at)
@@ -238,7 +248,7 @@ def copied(function):
     return row
 
 
-def named_file(at):
+def named_file(at: str) -> object:
     with tempfile.NamedTemporaryFile("w+", dir=at) as file:
         file.write("text")
         file.flush()
@@ -246,21 +256,21 @@ def named_file(at):
     return found, sorted(os.listdir(at))
 
 
-def unnamed_file(at):
+def unnamed_file(at: str) -> object:
     with tempfile.TemporaryFile(dir=at) as file:
         file.write(b"text")
         file.seek(1)
         return file.read(), os.fstat(file.fileno()).st_size, sorted(os.listdir(at))
 
 
-def made_file(at):
+def made_file(at: str) -> object:
     number, path = tempfile.mkstemp(dir=at)
     os.write(number, b"text")
     os.close(number)
     return text_of(path), os.path.dirname(path)
 
 
-def temporary_folder(at):
+def temporary_folder(at: str) -> object:
     with tempfile.TemporaryDirectory(dir=at) as folder:
         os.makedirs(f"{folder}/a/b")
         written(f"{folder}/a/f")
@@ -268,15 +278,15 @@ def temporary_folder(at):
     return found, sorted(os.listdir(at))
 
 
-def rolled(at):
+def rolled(at: str) -> object:
     with tempfile.SpooledTemporaryFile(2, dir=at) as file:
         file.write(b"text")
         file.seek(0)
         return file.read(), sorted(os.listdir(at))
 
 
-def opened(at):
-    found = []
+def opened(at: str) -> object:
+    found: List[object] = []
     for mode, text in (("w", "one\ntwo\n"), ("a", "three\n"), ("r+", "ONE"), ("a+", "four"), ("w+", "x\r\ny")):
         with open(f"{at}/o", mode) as file:
             found.append((file.write(text), file.tell(), file.name, file.mode, file.seekable(), file.isatty()))
@@ -295,33 +305,33 @@ def opened(at):
     return found
 
 
-def open_code(at):
+def open_code(at: str) -> object:
     with io.open_code(f"{at}/f") as file:
         return file.read()
 
 
-def touched(at):
+def touched(at: str) -> object:
     path = pathlib.Path(at, "t")
     path.touch()
     path.touch()
     return path.stat().st_size
 
 
-def by_pathlib(name, *given):
+def by_pathlib(name: str, *given: object) -> Row:
     return lambda at: getattr(pathlib.Path(at, "f"), name)(*given)
 
 
-def changed(function):
+def changed(function: Callable[..., object]) -> Row:
     """A row: what is below the directory after a change."""
 
-    def row(at):
+    def row(at: str) -> object:
         answered = function(at)
         return answered, all_of(at)
 
     return row
 
 
-def metadata_of(path):
+def metadata_of(path: str) -> Tuple[object, ...]:
     """What is kept of a node: no times that nobody has set."""
     found = os.lstat(path)
     times = [one if one < 10**12 else "now" for one in (found.st_atime_ns, found.st_mtime_ns)]
@@ -334,10 +344,10 @@ def metadata_of(path):
     )
 
 
-def changed_of(function):
+def changed_of(function: Callable[..., object]) -> Row:
     """A row: what is kept of each node after a change."""
 
-    def row(at):
+    def row(at: str) -> object:
         os.chmod(f"{at}/d/g", 0o600)
         os.utime(f"{at}/d/g", (7, 8))
         answered = function(at)
@@ -346,7 +356,7 @@ def changed_of(function):
     return row
 
 
-def masked(at):
+def masked(at: str) -> object:
     was = os.umask(0o027)
     try:
         os.mkdir(f"{at}/n", 0o777)
@@ -356,7 +366,7 @@ def masked(at):
         os.umask(was)
 
 
-def linked(at):
+def linked(at: str) -> object:
     os.symlink("f", f"{at}/l")
     os.symlink("../d", f"{at}/d/up")
     os.symlink(f"{at}/none", f"{at}/dangling")
@@ -368,7 +378,7 @@ def linked(at):
     )
 
 
-def number_of(call, *given):
+def number_of(call: Callable[..., object], *given: object) -> Optional[int]:
     """The number of the error that a call raises."""
     try:
         call(*given)
@@ -377,7 +387,7 @@ def number_of(call, *given):
     return None
 
 
-def attributes(at):
+def attributes(at: str) -> object:
     """Extended attributes, as a file system of the disk has them; one of memory may have none."""
     path = f"{at}/f"
     with contextlib.suppress(OSError):
@@ -395,16 +405,17 @@ def attributes(at):
             number_of(os.setxattr, path, "user.a", b"", os.XATTR_REPLACE),
             number_of(os.getxattr, f"{at}/none", "user.a"),
         )
+    return None
 
 
-def traced(at):
+def traced(at: str) -> object:
     with open(f"{at}/trace", "w+") as file:
         faulthandler.dump_traceback(file, all_threads=False)
         file.seek(0)
         return "in traced" in file.read()
 
 
-def kept_words(at):
+def kept_words(at: str) -> object:
     """A dictionary in a file, by whichever kind of database is there."""
     with dbm.open(f"{at}/base", "c") as base:
         base["a"] = "one"
@@ -414,7 +425,7 @@ def kept_words(at):
         return base["a"], list(base.keys()), dict(shelf)
 
 
-def locked(at):
+def locked(at: str) -> object:
     """Two that are open are in each other's way, and a copy of a descriptor is not."""
     both = fcntl.LOCK_EX | fcntl.LOCK_NB
     with open(f"{at}/f") as file, open(f"{at}/f") as other:
@@ -433,7 +444,7 @@ def locked(at):
         return found, fcntl.flock(file, both), number_of(fcntl.flock, file, 64)
 
 
-def mapped(at):
+def mapped(at: str) -> object:
     with open(f"{at}/f", "r+b") as file:
         with mmap.mmap(file.fileno(), 0) as area:
             area[1:3] = b"EL"
@@ -455,35 +466,35 @@ def mapped(at):
     return found
 
 
-def spliced(at):
+def spliced(at: str) -> object:
     from_pipe, to_pipe = os.pipe()
     with descriptor(f"{at}/f") as number:
-        found = os.splice(number, to_pipe, 3), os.read(from_pipe, 9), os.lseek(number, 0, os.SEEK_CUR)
+        found = os.splice(number, to_pipe, 3), os.read(from_pipe, 9), os.lseek(number, 0, os.SEEK_CUR)  # type: ignore[attr-defined]
     os.close(from_pipe)
     os.close(to_pipe)
     return found
 
 
-def sizes(at):
+def sizes(at: str) -> object:
     os.truncate(f"{at}/f", 2)
     with descriptor(f"{at}/d/g") as number:
         os.truncate(number, 9)
     return all_of(at)
 
 
-def there(function):
+def there(function: Callable[..., object]) -> Row:
     return lambda at: [
         function(f"{at}/{name}")
         for name in ("", "f", "d", "f/", "d/", "none", "f/x", "d/../f", "./d//g", "none/..", "f/..")
     ]
 
 
-def same(function):
+def same(function: Callable[..., object]) -> Row:
     return lambda at: [function(f"{at}/f", f"{at}/{name}") for name in ("f", "d/../f", "d/g")]
 
 
 # What each name does below a directory that has a file `f` and a directory `d` with a file `g` and a directory `e`.
-ROWS = {
+ROWS: Dict[str, Row] = {
     "builtins.open": opened,
     "io.open": lambda at: io.open(f"{at}/f", "rb").read(),
     "io.open_code": open_code,
@@ -491,7 +502,7 @@ ROWS = {
         (file.read(), file.mode, file.close()) for file in (io.FileIO(f"{at}/f"), io.FileIO(file=f"{at}/n", mode="xb+"))
     ],
     "os.stat": lambda at: [
-        of_stat(os.stat(one)) for one in (at, f"{at}/f", f"{at}/d/", os.fsencode(at), pathlib.Path(at, "f"))
+        of_stat(os.stat(one)) for one in (at, f"{at}/f", f"{at}/d/", os.fsencode(at), pathlib.Path(at, "f"))  # type: ignore[arg-type]
     ],
     "os.lstat": lambda at: of_stat(os.lstat(f"{at}/f")),
     "os.access": there(lambda path: os.access(path, os.R_OK | os.W_OK)),
@@ -689,17 +700,22 @@ ROWS = {
     "linecache.getline": lambda at: (linecache.checkcache(), linecache.getline(f"{at}/f", 1)),
 }
 
+# The environment of a program.
+NO_VARIABLES: Dict[str, str] = {}
+
 # What is refused below the directory, and how it is called there.
-REFUSALS = {
+REFUSALS: Dict[str, Row] = {
     "os.chroot": lambda at: os.chroot(f"{at}/d"),
     "os.link": lambda at: os.link(f"{at}/f", f"{at}/l"),
     "os.execv": lambda at: os.execv(f"{at}/f", ["f"]),
-    "os.execve": lambda at: os.execve(f"{at}/f", ["f"], {}),
-    "os.posix_spawn": lambda at: os.posix_spawn(f"{at}/f", ["f"], {}),
-    "os.posix_spawnp": lambda at: os.posix_spawnp(f"{at}/f", ["f"], {}),
+    "os.execve": lambda at: os.execve(f"{at}/f", ["f"], NO_VARIABLES),
+    "os.posix_spawn": lambda at: os.posix_spawn(f"{at}/f", ["f"], NO_VARIABLES),
+    "os.posix_spawnp": lambda at: os.posix_spawnp(f"{at}/f", ["f"], NO_VARIABLES),
     "os.system": in_folder(lambda at: os.system("true")),
-    "os._spawnvef": in_folder(lambda at: os.spawnv(os.P_WAIT, shutil.which("true"), ["true"])),
-    "_posixsubprocess.fork_exec": in_folder(lambda at: spawnv_passfds(os.fsencode(shutil.which("true")), ["true"], [])),
+    "os._spawnvef": in_folder(lambda at: os.spawnv(os.P_WAIT, str(shutil.which("true")), ["true"])),
+    "_posixsubprocess.fork_exec": in_folder(
+        lambda at: spawnv_passfds(os.fsencode(str(shutil.which("true"))), ["true"], [])
+    ),
     "subprocess.Popen": lambda at: subprocess.run(["true"], cwd=at),
     "os.dup2": with_descriptor(lambda number: os.dup2(number, 1)),
     "sqlite3.connect": lambda at: sqlite3.connect(f"file://{at}/base?mode=rwc", uri=True),
@@ -714,33 +730,33 @@ REFUSALS = {
 }
 
 
-def with_file(at, work):
+def with_file(at: str, work: Callable[[IO[str]], object]) -> object:
     with open(f"{at}/f") as file:
         return work(file)
 
 
-def with_socket(work):
+def with_socket(work: Callable[[socket.socket], object]) -> object:
     with socket.socket(socket.AF_UNIX) as one:
         return work(one)
 
 
-def filled(at):
+def filled(at: str) -> None:
     os.makedirs(f"{at}/d/e")
     written(f"{at}/f", "hello")
     written(f"{at}/d/g", "in d")
 
 
 class OfPatch(unittest.TestCase):
-    def setUp(self):
+    def setUp(self) -> None:
         self.tree = atomfs.Tree()
         self.addCleanup(self.tree.close)
         self.assertFalse(os.path.lexists(AT))
 
-    def tearDown(self):
+    def tearDown(self) -> None:
         self.assertFalse(os.path.lexists(AT))
         self.assertEqual(self.tree.check(), "lawful")
 
-    def outcome(self, row, at):
+    def outcome(self, row: Row, at: str) -> str:
         """What a row answers, or raises, without the path of the place and the names that are drawn."""
         filled(at)
         try:
@@ -749,7 +765,7 @@ class OfPatch(unittest.TestCase):
             found = repr((type(error), error.errno, error.filename, error.filename2))
         return re.sub(r"\btmp[a-z0-9_]{8}\b", "TMP", found.replace(at, "AT"))
 
-    def compare(self, row):
+    def compare(self, row: Row) -> None:
         with tempfile.TemporaryDirectory() as at:
             wanted = self.outcome(row, at)
         self.tree.rmtree("/")
@@ -758,7 +774,7 @@ class OfPatch(unittest.TestCase):
         self.assertEqual(found, wanted)
 
 
-def there_here(name):
+def there_here(name: str) -> bool:
     """Whether this Python has what the table names."""
     module, _, rest = name.partition(".")
     found = sys.modules.get(module) or _table.found(name)
@@ -768,7 +784,7 @@ def there_here(name):
 
 
 class Table(OfPatch):
-    def test_rows(self):
+    def test_rows(self) -> None:
         """Each name that is covered has a row here, and each that is refused."""
         self.assertEqual(
             {name for name in ROWS if there_here(name)}, {name for name in atomfs.patch.covered if there_here(name)}
@@ -780,12 +796,12 @@ class Table(OfPatch):
         # What only some versions or systems have.
         self.assertLessEqual({*ROWS, *REFUSALS}, {*atomfs.patch.covered, *atomfs.patch.refused})
 
-    def test_covered(self):
+    def test_covered(self) -> None:
         for name, row in ((name, row) for name, row in ROWS.items() if there_here(name)):
             with self.subTest(name):
                 self.compare(row)
 
-    def test_refused(self):
+    def test_refused(self) -> None:
         for name, call in ((name, call) for name, call in REFUSALS.items() if there_here(name)):
             with self.subTest(name), atomfs.patch(self.tree, at=AT):
                 self.tree.rmtree("/")
@@ -797,39 +813,43 @@ class Table(OfPatch):
                 self.assertEqual((raised.exception.errno, self.tree.tree()), (number, before))
                 self.assertIn(f": a tree {atomfs.patch.refused[name]}", str(raised.exception))
 
-    def test_refused_by_other_words(self):
+    def test_refused_by_other_words(self) -> None:
         """By the names of arguments, from descriptors, and as a program or a file of a process."""
         with atomfs.patch(self.tree, at=AT):
             filled(AT)
             before = self.tree.tree()
-            for call in (
+            each: Tuple[Callable[..., object], ...] = (
                 lambda: sqlite3.connect(database=f"{AT}/base"),
                 lambda: sqlite3.connect(f"file://localhost{AT}/base", uri=True),
                 lambda: sqlite3.connect(f"file:{AT.replace('/', '%2F')}/base", uri=True),
                 lambda: sqlite3.Connection(database=pathlib.Path(AT, "base")),
                 lambda: subprocess.Popen([f"{AT}/f"]),
-                lambda: subprocess.Popen(one for one in (f"{AT}/f",)),
+                lambda: subprocess.Popen(one for one in (f"{AT}/f",)),  # type: ignore[call-overload]
                 lambda: subprocess.Popen(["true"], executable=f"{AT}/f"),
                 lambda: subprocess.Popen(["true"], stdout=open(f"{AT}/f")),
                 in_folder(lambda at: subprocess.Popen(["true"])),
-                in_folder(lambda at: os.posix_spawn("/bin/true", ["true"], {})),
+                in_folder(lambda at: os.posix_spawn("/bin/true", ["true"], NO_VARIABLES)),
                 in_folder(lambda at: os.execv("/bin/true", ["true"])),
                 lambda: os.posix_spawn(
-                    "/bin/true", ["true"], {}, file_actions=[(os.POSIX_SPAWN_OPEN, 1, f"{AT}/f", os.O_WRONLY, 0)]
+                    "/bin/true",
+                    ["true"],
+                    NO_VARIABLES,
+                    file_actions=[(os.POSIX_SPAWN_OPEN, 1, f"{AT}/f", os.O_WRONLY, 0)],
                 ),
                 with_descriptor(
                     lambda number: os.posix_spawn(
-                        "/bin/true", ["true"], {}, file_actions=[(os.POSIX_SPAWN_DUP2, number, 1)]
+                        "/bin/true", ["true"], NO_VARIABLES, file_actions=[(os.POSIX_SPAWN_DUP2, number, 1)]
                     )
                 ),
                 with_descriptor(lambda number: subprocess.Popen(["true"], pass_fds=[number])),
                 with_descriptor(lambda number: os.dup2(number, 1)),
-            ):
+            )
+            for call in each:
                 with self.subTest(call), self.assertRaises(OSError) as raised:
                     call(AT) if call.__code__.co_argcount else call()
                 self.assertEqual((raised.exception.errno, self.tree.tree()), (errno.ENOTSUP, before))
 
-    def test_all_of_os(self):
+    def test_all_of_os(self) -> None:
         """Each function of `os` that takes a path or a descriptor is in the table, or is made of those that are."""
         made = {
             "fdopen",
@@ -859,7 +879,7 @@ class Table(OfPatch):
         others |= {"eventfd_write", "waitid", "login_tty", "ptsname", "grantpt", "unlockpt", "setns", "pidfd_open"}
         others |= {f"timerfd_{name}{end}" for name in ("gettime", "settime") for end in ("", "_ns")}
         words = {"path", "src", "dst", "fd", "fd2", "fd_low", "in_fd", "out_fd", "source", "target"}
-        for name in sorted(set(os.__all__) - made - others):
+        for name in sorted(set(os.__all__) - made - others):  # type: ignore[attr-defined]
             function = getattr(os, name)
             if not callable(function) or isinstance(function, type) or name.startswith(("exec", "spawn", "_")):
                 continue
@@ -870,7 +890,7 @@ class Table(OfPatch):
 
 
 class Errors(OfPatch):
-    def test_errors(self):
+    def test_errors(self) -> None:
         """Each raises what it raises on the disk, with the paths as they were given."""
         for at, row in enumerate(
             (
@@ -934,9 +954,9 @@ class Errors(OfPatch):
             with self.subTest(at):
                 self.compare(row)
 
-    def test_other_errors(self):
+    def test_other_errors(self) -> None:
         """What is no path, no mode, no buffer: the class of the error is that of the disk."""
-        for call in (
+        each: Tuple[Row, ...] = (
             lambda at: open(f"{at}/f", "q"),
             lambda at: open(f"{at}/f", "rw"),
             lambda at: open(f"{at}/f", "b"),
@@ -944,26 +964,27 @@ class Errors(OfPatch):
             lambda at: open(f"{at}/f", encoding="none"),
             lambda at: open(f"{at}/f", buffering=0),
             lambda at: open(f"{at}/f", closefd=False),
-            lambda at: open(f"{at}/f", 7),
-            lambda at: open(1.5),
-            lambda at: open(None),
+            lambda at: open(f"{at}/f", 7),  # type: ignore[call-overload]
+            lambda at: open(1.5),  # type: ignore[call-overload]
+            lambda at: open(None),  # type: ignore[call-overload]
             lambda at: open(f"{at}/a\0b"),
             lambda at: os.stat(f"{at}/a\0b"),
-            lambda at: os.stat(None),
-            lambda at: os.stat(f"{at}/f", dir_fd="1"),
-            lambda at: os.lstat(0),
-            lambda at: os.mkdir(os.open(at, os.O_RDONLY)),
-            lambda at: os.stat(),
-            lambda at: os.rename(f"{at}/f"),
-            lambda at: os.rename(1.5, f"{at}/f"),
-            lambda at: os.listdir(1.5),
+            lambda at: os.stat(None),  # type: ignore[arg-type]
+            lambda at: os.stat(f"{at}/f", dir_fd="1"),  # type: ignore[arg-type]
+            lambda at: os.lstat(0),  # type: ignore[arg-type]
+            lambda at: os.mkdir(os.open(at, os.O_RDONLY)),  # type: ignore[arg-type]
+            lambda at: os.stat(),  # type: ignore[call-arg]
+            lambda at: os.rename(f"{at}/f"),  # type: ignore[call-arg]
+            lambda at: os.rename(1.5, f"{at}/f"),  # type: ignore[arg-type]
+            lambda at: os.listdir(1.5),  # type: ignore[call-overload]
             lambda at: open(f"{at}/f").write("x"),
             lambda at: open(f"{at}/f", "wb").read(),
-            lambda at: open(f"{at}/f", "wb").write("x"),
-            lambda at: open(f"{at}/f", "rb", 0).readinto(b"abc"),
-            lambda at: os.write(os.open(f"{at}/f", os.O_WRONLY), "x"),
-            lambda at: os.mkdir(f"{at}/x", no=1) if sys.flags.optimize else os.mkdir(),
-        ):
+            lambda at: open(f"{at}/f", "wb").write("x"),  # type: ignore[arg-type]
+            lambda at: open(f"{at}/f", "rb", 0).readinto(b"abc"),  # type: ignore[arg-type]
+            lambda at: os.write(os.open(f"{at}/f", os.O_WRONLY), "x"),  # type: ignore[arg-type]
+            lambda at: os.mkdir(f"{at}/x", no=1) if sys.flags.optimize else os.mkdir(),  # type: ignore[call-arg]
+        )
+        for call in each:
             kinds = []
             with tempfile.TemporaryDirectory() as at:
                 filled(at)
@@ -981,7 +1002,7 @@ class Errors(OfPatch):
                 self.assertEqual(kinds[1], kinds[0])
                 self.assertIn(self.tree.tree(), (before, before.replace("f 68656c6c6f", "f -")))
 
-    def test_places_that_are_no_whole_numbers(self):
+    def test_places_that_are_no_whole_numbers(self) -> None:
         """They are refused as those of the disk are from 3.10 on."""
         with atomfs.patch(self.tree, at=AT):
             filled(AT)
@@ -989,7 +1010,7 @@ class Errors(OfPatch):
                 self.assertRaises(TypeError, file.seek, 1.5)
                 self.assertRaises(TypeError, os.lseek, file.fileno(), 1.5, os.SEEK_SET)
 
-    def test_limits(self):
+    def test_limits(self) -> None:
         """The error has the path as it was given, and the limit."""
         with atomfs.Tree(limits=atomfs.Limits.V2) as tree, atomfs.patch(tree, at=AT):
             with self.assertRaisesRegex(OSError, f"more than 1,048,576 bytes: '{AT}/f'") as raised:
@@ -1001,7 +1022,7 @@ class Errors(OfPatch):
             with tempfile.TemporaryFile(dir=AT) as file, self.assertRaisesRegex(OSError, "more than 1,048,576 bytes"):
                 file.truncate(1_048_577)
 
-    def test_patches(self):
+    def test_patches(self) -> None:
         for at in ("/", "//", "/."):
             with self.subTest(at):
                 self.assertRaises(ValueError, atomfs.patch, self.tree, at)
@@ -1023,7 +1044,7 @@ class Errors(OfPatch):
 
 
 class Outside(OfPatch):
-    def test_the_disk(self):
+    def test_the_disk(self) -> None:
         """What is not below the directory is on the disk, and nothing of it is in the tree."""
         with tempfile.TemporaryDirectory() as at, atomfs.patch(self.tree, at=AT):
             filled(at)
@@ -1038,7 +1059,7 @@ class Outside(OfPatch):
             os.mkdir(f"{AT}/working")
             os.chdir(f"{AT}/working")
             os.symlink("f", f"{at}/l")
-            self.assertEqual(subprocess.run(iter(["cat", "f"]), cwd=at, capture_output=True).stdout, b"hello")
+            self.assertEqual(subprocess.run(iter(["cat", "f"]), cwd=at, capture_output=True).stdout, b"hello")  # type: ignore[call-overload]
             os.chdir("/")
             os.rmdir(f"{AT}/working")
             self.assertEqual(
@@ -1056,7 +1077,7 @@ class Outside(OfPatch):
             shutil.move(f"{AT}/copy/d", at)
             self.assertEqual((text_of(f"{at}/d/g"), self.tree.readdir("/copy")), ("in d", ["base", "f", "l"]))
 
-    def test_border(self):
+    def test_border(self) -> None:
         """A path that leads over the border by dots, and from a working directory."""
         before = os.getcwd()
         with tempfile.TemporaryDirectory() as at:
@@ -1100,7 +1121,7 @@ class Outside(OfPatch):
             self.assertEqual((os.getcwd(), os.path.lexists(place)), ("/", False))
             os.chdir(before)
 
-    def test_links_of_the_disk(self):
+    def test_links_of_the_disk(self) -> None:
         """Over a directory of the disk the tree hides what is there, by whatever link it is reached."""
         with tempfile.TemporaryDirectory() as at:
             os.mkdir(f"{at}/place")
@@ -1115,15 +1136,15 @@ class Outside(OfPatch):
                 os.unlink(f"{at}/link")
             self.assertEqual(sorted(os.listdir(f"{at}/place")), ["hidden"])
 
-    def test_restored(self):
+    def test_restored(self) -> None:
         """All is as it was after the end, whatever happens, and what a module has taken meanwhile goes to the disk."""
         names = [name for name in _table.REPLACED if _table.found(name) is not None]
         before = [_table.found(name) for name in names] + [
             io.open,
             os.supports_dir_fd,
-            tempfile._TemporaryFileCloser.__dict__,
+            tempfile._TemporaryFileCloser.__dict__,  # type: ignore[attr-defined]
         ]
-        taken = []
+        taken: List[Callable[..., object]] = []
         with self.assertRaises(KeyError), atomfs.patch(self.tree, at=AT):
             taken += [os.stat, open, io.FileIO]
             self.assertEqual(
@@ -1135,21 +1156,22 @@ class Outside(OfPatch):
                 listed = os.listdir
 
             self.assertEqual(
-                (Taken().listed(AT), os.listdir.__name__, inspect.signature(os.listdir).parameters.keys()),
+                (Taken().listed(AT), os.listdir.__name__, inspect.signature(os.listdir).parameters.keys()),  # type: ignore[call-overload, misc]
                 ([], "listdir", {"path"}),
             )
             raise KeyError
         after = [_table.found(name) for name in names] + [
             io.open,
             os.supports_dir_fd,
-            tempfile._TemporaryFileCloser.__dict__,
+            tempfile._TemporaryFileCloser.__dict__,  # type: ignore[attr-defined]
         ]
         self.assertEqual([name for name, one, other in zip(names, before, after) if one is not other], [])
         self.assertEqual(before[-3:], after[-3:])
-        for call in (*taken, captured, Kept.listed, Kept().of_default, of_default):
+        each: Tuple[Callable[..., object], ...] = (*taken, captured, Kept.listed, Kept().of_default, of_default)
+        for call in each:
             self.assertRaises(FileNotFoundError, call, AT)
 
-    def test_two_trees(self):
+    def test_two_trees(self) -> None:
         with atomfs.Tree() as other, atomfs.patch(self.tree, at=AT), atomfs.patch(other, at=f"{AT}2"):
             written(f"{AT}/f", "one")
             written(f"{AT}2/f", "other")
@@ -1161,9 +1183,9 @@ class Outside(OfPatch):
             shutil.move(f"{AT}/f", f"{AT}2/g")
             self.assertEqual((other.read("/g"), self.tree.readdir("/")), (b"one", []))
 
-    def test_decorator(self):
+    def test_decorator(self) -> None:
         @atomfs.patch(self.tree, at=AT)
-        def work():
+        def work() -> str:
             return written(f"{AT}/f")
 
         self.assertEqual([work(), work(), self.tree.read("/f")], [f"{AT}/f", f"{AT}/f", b"text"])
@@ -1172,7 +1194,7 @@ class Outside(OfPatch):
 class NothingOnTheDisk(OfPatch):
     """What knows nothing of a patch, and is made by relative paths, finds no directory of the disk while the tree has the working one."""
 
-    def test_relative(self):
+    def test_relative(self) -> None:
         libc, before = ctypes.CDLL(None, use_errno=True), os.getcwd()
         with tempfile.TemporaryDirectory() as at:
             os.chdir(at)
@@ -1200,10 +1222,10 @@ class NothingOnTheDisk(OfPatch):
 
 
 class Open(OfPatch):
-    def test_a_moved_and_a_removed_file(self):
+    def test_a_moved_and_a_removed_file(self) -> None:
         """A descriptor goes with its file, and has it after it was removed or replaced."""
 
-        def row(at):
+        def row(at: str) -> object:
             with open(f"{at}/f", "r+") as file, open(f"{at}/d/g", "rb+", 0) as other, descriptor(
                 f"{at}/d", 0
             ) as folder:
@@ -1211,7 +1233,11 @@ class Open(OfPatch):
                 os.rename(f"{at}/f", f"{at}/k/f")
                 file.write("J")
                 file.flush()
-                found = [text_of(f"{at}/k/f"), sorted(os.listdir(folder)), of_stat(os.stat("f", dir_fd=folder))]
+                found: List[object] = [
+                    text_of(f"{at}/k/f"),
+                    sorted(os.listdir(folder)),
+                    of_stat(os.stat("f", dir_fd=folder)),
+                ]
                 os.replace(f"{at}/k/f", f"{at}/k/g")
                 found += [other.read(), other.write(b"!"), os.fstat(other.fileno()).st_size, text_of(f"{at}/k/g")]
                 os.unlink(f"{at}/k/g")
@@ -1221,11 +1247,11 @@ class Open(OfPatch):
 
         self.compare(row)
 
-    def test_large_files(self):
+    def test_large_files(self) -> None:
         """Whole files of the greatest length, and longer than what is read at once."""
 
-        def row(at):
-            found = []
+        def row(at: str) -> object:
+            found: List[object] = []
             for size in (65_535, 65_536, 65_537, 1_048_576):
                 data = bytes(range(256)) * (size // 256) + b"x" * (size % 256)
                 pathlib.Path(at, "f").write_bytes(data)
@@ -1237,7 +1263,7 @@ class Open(OfPatch):
 
         self.compare(row)
 
-    def test_large_trees(self):
+    def test_large_trees(self) -> None:
         """Directories and files that one call does not tell come whole, and names are as long as those of the disk."""
         with atomfs.Tree() as tree, atomfs.patch(tree, at=AT):
             os.mkdir(f"{AT}/d")
@@ -1264,11 +1290,11 @@ class Open(OfPatch):
             )
             self.assertEqual((sorted(os.listdir(AT)), tree.check()), (["f", "n" * 255], "lawful"))
 
-    def test_calls(self):
+    def test_calls(self) -> None:
         """A function is one call of the tree, where one is enough."""
         with atomfs.patch(self.tree, at=AT):
             filled(AT)
-            for calls, function in (
+            rows: Tuple[Tuple[List[str], Callable[[], object]], ...] = (
                 (["rename /f /n: ok"], lambda: os.rename(f"{AT}/f", f"{AT}/n")),
                 (["rename /n /f: ok"], lambda: os.replace(f"{AT}/n", f"{AT}/f")),
                 (["stat /f: stat file 5"], lambda: os.path.exists(f"{AT}/f")),
@@ -1278,15 +1304,16 @@ class Open(OfPatch):
                 (["unlink /m: ok"], lambda: os.unlink(f"{AT}/m")),
                 (["mkdir /m: ok", "rmdir /m: ok"], lambda: (os.mkdir(f"{AT}/m"), os.rmdir(f"{AT}/m/"))),
                 (["truncate /f 2: ok"], lambda: os.truncate(f"{AT}/f", 2)),
-            ):
+            )
+            for calls, function in rows:
                 before = self.tree.calls
                 function()
                 count = self.tree.calls - before
                 with self.subTest(calls):
                     self.assertEqual(self.tree.last_calls(count), calls)
 
-    def test_threads(self):
-        def work(thread):
+    def test_threads(self) -> None:
+        def work(thread: int) -> None:
             for at in range(20):
                 path = f"{AT}/{thread}/{at}"
                 os.makedirs(os.path.dirname(path), exist_ok=True)
@@ -1301,7 +1328,7 @@ class Open(OfPatch):
                 thread.join()
             self.assertEqual([text_of(f"{AT}/{thread}/last") for thread in range(4)], ["19"] * 4)
 
-    def test_a_file_that_another_thread_moves(self):
+    def test_a_file_that_another_thread_moves(self) -> None:
         """A descriptor goes with its file also where that is moved, or loses its entry, once the other thread has begun its call."""
         calls = (
             lambda number: os.pread(number, 3, 1),
@@ -1318,11 +1345,11 @@ class Open(OfPatch):
                     found = [self.meanwhile(call, number, at, gone) for at, call in enumerate(calls)]
                 self.assertEqual(found, wanted)
 
-    def meanwhile(self, call, number, at, gone):
+    def meanwhile(self, call: Callable[[int], object], number: int, at: int, gone: bool) -> object:
         """What a thread comes to that has begun its call before this one moves the file, or replaces what it was moved to."""
         came = []
 
-        def asks():
+        def asks() -> None:
             try:
                 came.append(call(number))
             except OSError as error:

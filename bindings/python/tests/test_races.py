@@ -8,6 +8,7 @@ import re
 import subprocess
 import sys
 import tempfile
+import typing
 import unittest
 
 import atomfs
@@ -34,25 +35,29 @@ LEFT = {
 
 @unittest.skipUnless(FOLDER.is_dir(), "the examples are those of a checkout")
 class Races(unittest.TestCase):
+    # The module race of the examples.
+    race: typing.Any
+
     @classmethod
-    def setUpClass(cls):
+    def setUpClass(cls) -> None:
         sys.path.insert(0, str(FOLDER))
         cls.addClassCleanup(sys.path.remove, str(FOLDER))
         cls.race = importlib.import_module("race")
 
     @classmethod
-    def found(cls, name):
+    def found(cls, name: str) -> atomfs.ScheduleError:
         """The error of a race."""
         cls.setUpClass()
         try:
-            return cls.race.find(importlib.import_module(name))
+            error: atomfs.ScheduleError = cls.race.find(importlib.import_module(name))
+            return error
         finally:
             cls.doClassCleanups()
 
-    def test_all(self):
+    def test_all(self) -> None:
         self.assertEqual(NAMES, sorted(LEFT))
 
-    def test_found(self):
+    def test_found(self) -> None:
         """By each kind of draws, in few runs; what is told has lines of the program alone."""
         for name in NAMES:
             module = importlib.import_module(name)
@@ -63,7 +68,7 @@ class Races(unittest.TestCase):
                     self.assertEqual(self.race.find(module, runs=1, seed=error.seed, draws=draws).seed, error.seed)
                     self.assertEqual({one.line.file for one in error.events}, {str(FOLDER / f"{name}.py")})
 
-    def test_cut_down(self):
+    def test_cut_down(self) -> None:
         """The one that is left is as short as it can be, and has a script, a lawful journal and a picture."""
         for name, (switches, calls) in LEFT.items():
             with self.subTest(name):
@@ -75,7 +80,7 @@ class Races(unittest.TestCase):
                 self.assertEqual(atomfs.run(error.script).partition("tree\n")[0], error.journal)
                 self.assertEqual((error.verdict, error.draw().svg[:4]), ("lawful", "<svg"))
 
-    def test_made_again(self):
+    def test_made_again(self) -> None:
         """The cut-down run is made again, and fails as it did."""
         for name in NAMES:
             with self.subTest(name):
@@ -85,14 +90,14 @@ class Races(unittest.TestCase):
                     self.assertEqual((again.events, again.journal), (error.events, error.journal))
                     self.assertEqual(str(again.__cause__), str(error.__cause__))
 
-    def test_repaired(self):
+    def test_repaired(self) -> None:
         for name in NAMES:
             with self.subTest(name):
                 seen = self.race.passes(importlib.import_module(name), RUNS)
                 self.assertEqual(seen, RUNS)
                 self.assertGreaterEqual(seen.pairs, seen.met)
 
-    def test_programs(self):
+    def test_programs(self) -> None:
         """Each is a program that tells its race, and its repair how much was seen."""
         words = [sys.executable, str(FOLDER / "mkdir_p.py")]
         ran = subprocess.run(words, capture_output=True, text=True)
@@ -101,7 +106,7 @@ class Races(unittest.TestCase):
         ran = subprocess.run([*words, "--repaired", "--runs", "50", "--seed", "9"], capture_output=True, text=True)
         self.assertEqual(ran.stdout, "50 runs, 1 outcome, 1 new in the last 50 runs; 0 of 0 pairs of calls met\n")
 
-    def test_table(self):
+    def test_table(self) -> None:
         """The page names each, and nothing else."""
         page = (FOLDER / "README.md").read_text()
         self.assertEqual(sorted(set(re.findall(r"\((\w+)\.py\)", page)) - {"race"}), NAMES)
@@ -113,11 +118,11 @@ class Pages(unittest.TestCase):
 
     PAGE, SCHEDULES = (FOLDER.parents[1] / "docs" / name for name in ("RACES.md", "SCHEDULES.md"))
 
-    def blocks(self, page, language):
+    def blocks(self, page: pathlib.Path, language: str) -> typing.List[str]:
         found = re.findall(r"^```(\w*)\n(.*?)^```$", page.read_text(), re.M | re.S)
         return [text for word, text in found if word == language]
 
-    def test_example(self):
+    def test_example(self) -> None:
         """The example raises what the page shows; how many runs it took depends on the patch."""
         (shown,) = self.blocks(self.PAGE, "")
         with tempfile.TemporaryDirectory() as folder:
@@ -128,20 +133,21 @@ class Pages(unittest.TestCase):
         wanted = _without_counts(shown.splitlines())
         self.assertEqual(_without_counts(told)[: len(wanted)], wanted)
 
-    def test_races(self):
+    def test_races(self) -> None:
         """So does the race that the page of races shows, but for what it leaves out."""
         (shown,) = self.blocks(FOLDER / "README.md", "")
         command, *lines = shown.splitlines()
-        name = re.fullmatch(r"\$ python3 examples/races/(\w+)\.py", command)[1]
-        told = [line.rstrip() for line in str(Races.found(name)).splitlines()]
+        named = re.fullmatch(r"\$ python3 examples/races/(\w+)\.py", command)
+        assert named
+        told = [line.rstrip() for line in str(Races.found(named[1])).splitlines()]
         self.assertIn("  ..", lines)
         for line in _without_counts(lines):
             if line != "  ..":
                 self.assertIn(line, _without_counts(told))
 
-    def test_outcomes(self):
+    def test_outcomes(self) -> None:
         first, second = self.blocks(self.PAGE, "python")
-        space = {}
+        space: typing.Dict[str, typing.Any] = {}
         exec(first.partition("atomfs.explore(")[0], space)
         with contextlib.redirect_stdout(io.StringIO()) as told:
             exec(second, space)
@@ -153,15 +159,15 @@ class Pages(unittest.TestCase):
     @unittest.skipUnless(
         importlib.util.find_spec("hypothesis"), "there is no hypothesis: apt-get install python3-hypothesis"
     )
-    def test_hypothesis(self):
+    def test_hypothesis(self) -> None:
         """The recipes run and pass, here with few examples."""
-        from hypothesis import settings
+        from hypothesis import settings  # type: ignore[import]
 
         given, stateful = self.blocks(self.SCHEDULES, "python")
         settings.register_profile("few", max_examples=15, database=None, derandomize=True)
         settings.load_profile("few")
         self.addCleanup(settings.load_profile, "default")
-        space = {"__name__": "page"}
+        space: typing.Dict[str, typing.Any] = {"__name__": "page"}
         exec(given, space)
         space["test_page"]()
         exec(stateful, space)
@@ -170,7 +176,7 @@ class Pages(unittest.TestCase):
         self.assertEqual((result.testsRun, result.errors, result.failures), (1, [], []))
 
 
-def _without_counts(lines):
+def _without_counts(lines: typing.List[str]) -> typing.List[str]:
     return [line for line in lines if " cut down from " not in line]
 
 

@@ -81,7 +81,7 @@ print(atomfs.outcomes({"a": add, "b": add}, lambda tree, replies: tree.read("/n"
 
 
 class Repeats(unittest.TestCase):
-    def test_same_everywhere(self):
+    def test_same_everywhere(self) -> None:
         with tempfile.TemporaryDirectory() as folder:
             path = os.path.join(folder, "program.py")
             with open(path, "w") as file:
@@ -96,10 +96,11 @@ class Repeats(unittest.TestCase):
             self.assertEqual(told[0].splitlines(), other.splitlines())
             self.assertEqual(told[0], other)
 
-    def told(self, path, hash_seed, load):
+    def told(self, path: str, hash_seed: str, load: bool) -> str:
         """What the program tells, while others keep the processors busy or not."""
         busy = [
-            subprocess.Popen([sys.executable, "-c", "while True: pass"]) for _ in range(os.cpu_count() if load else 0)
+            subprocess.Popen([sys.executable, "-c", "while True: pass"])
+            for _ in range((os.cpu_count() or 1) if load else 0)
         ]
         try:
             ran = subprocess.run(

@@ -1,6 +1,7 @@
 """Trees and seats."""
 import copy
 import errno
+import functools
 import os
 import pathlib
 import pickle
@@ -8,24 +9,30 @@ import re
 import shutil
 import threading
 import time
+import typing
 import unittest
 
 import atomfs
 from atomfs import Did, Stat
 
+# Rows of a test.
+Rows = typing.Iterable[typing.Tuple[typing.Any, ...]]
+
 
 class OfTree(unittest.TestCase):
     """A test with a tree whose journal has to be lawful at its end."""
 
-    def setUp(self):
+    def setUp(self) -> None:
         self.tree = atomfs.Tree(1000)
 
-    def tearDown(self):
+    def tearDown(self) -> None:
         if not self.tree.closed:
             self.assertEqual(self.tree.check(), "lawful")
         self.tree.close()
 
-    def fails(self, kind, number, call, *paths):
+    def fails(
+        self, kind: typing.Type[BaseException], number: int, call: typing.Callable[[], object], *paths: str
+    ) -> None:
         """A call that raises an `OSError` of this class, number and these paths."""
         with self.assertRaises(OSError) as raised:
             call()
@@ -35,7 +42,7 @@ class OfTree(unittest.TestCase):
 
 
 class Calls(OfTree):
-    def test_each_call(self):
+    def test_each_call(self) -> None:
         tree = self.tree
         tree.mkdir("/a")
         tree.mknod("/a/f")
@@ -56,12 +63,12 @@ class Calls(OfTree):
         self.assertEqual(tree.stat("/c"), Stat(True, 0))
         self.assertEqual(tree.tree(), "tree\ndir /\ndir /c\n")
 
-    def test_each_error(self):
+    def test_each_error(self) -> None:
         tree = self.tree
         tree.mkdir("/d")
         tree.mkdir("/d/e")
         tree.mknod("/f")
-        rows = (
+        rows: Rows = (
             (FileNotFoundError, errno.ENOENT, lambda: tree.stat("/x"), "/x"),
             (NotADirectoryError, errno.ENOTDIR, lambda: tree.readdir("/f"), "/f"),
             (FileExistsError, errno.EEXIST, lambda: tree.mkdir("/d"), "/d"),
@@ -77,7 +84,7 @@ class Calls(OfTree):
             with self.subTest(errno.errorcode[number]):
                 self.fails(kind, number, call, *paths)
 
-    def test_full(self):
+    def test_full(self) -> None:
         with atomfs.Tree(limits=atomfs.Limits.V2) as tree:
             for at in range(256):
                 tree.mknod(f"/{at}")
@@ -86,7 +93,7 @@ class Calls(OfTree):
         with atomfs.Tree(1) as tree:
             self.fails(OSError, errno.ENOSPC, lambda: tree.mkdir("/a"), "/a")
 
-    def test_paths(self):
+    def test_paths(self) -> None:
         """What is no path is refused with the number that it has in the field."""
         rows = (
             ("a", errno.EINVAL),
@@ -100,12 +107,12 @@ class Calls(OfTree):
         )
         for path, number in rows:
             with self.subTest(path):
-                self.fails(OSError, number, lambda path=path: self.tree.mkdir(path), path)
+                self.fails(OSError, number, functools.partial(self.tree.mkdir, path), path)
         self.fails(OSError, errno.EINVAL, lambda: self.tree.rename("/a", "b"), "b")
         self.assertEqual(self.tree.journal(), "atomfs-journal 4\nstart\ndir /\nentries\n")
         self.tree.mkdir("/" + "n" * 255)
 
-    def test_kinds_of_paths(self):
+    def test_kinds_of_paths(self) -> None:
         """Paths may be strings, bytes and path objects, and names come as the path came."""
         self.tree.mkdir(pathlib.PurePosixPath("/d"))
         self.tree.mknod(b"/d/\xff %")
@@ -114,9 +121,9 @@ class Calls(OfTree):
         self.assertEqual(self.tree.readdir("/d"), ["\N{SNOWMAN}", os.fsdecode(b"\xff %")])
         self.tree.unlink("/d/" + self.tree.readdir("/d")[1])
         with self.assertRaises(TypeError):
-            self.tree.stat(7)
+            self.tree.stat(7)  # type: ignore[arg-type]
 
-    def test_bytes(self):
+    def test_bytes(self) -> None:
         """What is written may be anything with bytes, and a file is read whole by one call."""
         self.tree.mknod("/f")
         every = bytes(range(256)) * 256
@@ -133,9 +140,9 @@ class Calls(OfTree):
             lambda: self.tree.truncate("/f", -1),
         ):
             self.assertRaises(ValueError, call)
-        self.assertRaises(TypeError, lambda: self.tree.write("/f", 0, "text"))
+        self.assertRaises(TypeError, lambda: self.tree.write("/f", 0, "text"))  # type: ignore[arg-type]
 
-    def test_little_room(self):
+    def test_little_room(self) -> None:
         """Names and bytes for which there is no room at first come whole."""
         tree = atomfs.Tree(room=1)
         names = [f"{at:0255}" for at in range(100)]
@@ -151,24 +158,24 @@ class Calls(OfTree):
 class Lists(unittest.TestCase):
     """Directories and files that are larger than what one call tells."""
 
-    def setUp(self):
+    def setUp(self) -> None:
         self.tree = atomfs.Tree()
         self.names = [f"{at:03}" for at in range(600)]
         self.tree.mkdir("/d")
         for name in self.names:
             self.tree.mknod(f"/d/{name}")
 
-    def tearDown(self):
+    def tearDown(self) -> None:
         self.assertEqual(self.tree.check(), "lawful")
         self.tree.close()
 
-    def lists(self, of):
+    def lists(self, of: typing.Callable[[], object]) -> int:
         """How many calls `list` a function makes."""
         self.tree.checkpoint()
         of()
         return self.tree.journal().count(" list /d ")
 
-    def test_pieces(self):
+    def test_pieces(self) -> None:
         tree, names = self.tree, self.names
         self.assertEqual(tree.list("/d"), names[:256])
         self.assertEqual(tree.list("/d", "/255"), names[256:512])
@@ -189,7 +196,7 @@ class Lists(unittest.TestCase):
             tree.list("/d", "000")
         self.assertEqual((raised.exception.errno, raised.exception.filename), (errno.EINVAL, "/d"))
 
-    def test_whole_directories(self):
+    def test_whole_directories(self) -> None:
         """Each listing makes a call for as many names as one tells, and one more where these are all there are."""
         tree, names = self.tree, self.names
         paths = [f"/d/{name}" for name in names]
@@ -209,7 +216,7 @@ class Lists(unittest.TestCase):
         self.assertEqual(tree.listdir("/"), [])
         self.assertRaises(FileNotFoundError, tree.listdir, "/d")
 
-    def test_step_by_step(self):
+    def test_step_by_step(self) -> None:
         seat = self.tree.seat()
         number = seat.begin.list("/d", "/597", 9)
         self.assertEqual(seat.finish(), ["598", "599"])
@@ -222,7 +229,7 @@ class Lists(unittest.TestCase):
         seat.begin.readdir("/d")
         self.assertRaises(OSError, seat.finish)
 
-    def test_long_names(self):
+    def test_long_names(self) -> None:
         """As many names as a call answers, each as long as there are."""
         tree, names = self.tree, [f"{at:0255}" for at in range(256)]
         tree.mkdir("/long")
@@ -239,7 +246,7 @@ class Lists(unittest.TestCase):
         self.assertEqual(atomfs.Tree.from_text(tree.tree()).listdir("/long"), names[1:])
         tree.rmtree("/long")
 
-    def test_long_files(self):
+    def test_long_files(self) -> None:
         """What is longer than one call reads comes by several, and a file may be far longer than what is in it."""
         tree, most = self.tree, self.tree.limits.read_bytes
         data = bytes(range(251)) * (2 * most // 251 + 9)
@@ -266,7 +273,7 @@ class Lists(unittest.TestCase):
         self.assertEqual(tree.read("/g"), bytes(most))
         tree.unlink("/g")
 
-    def test_other_limits(self):
+    def test_other_limits(self) -> None:
         """The others have no such call, and `listdir` is one `readdir` there."""
         for limits in (atomfs.Limits.V1, atomfs.Limits.V2):
             with atomfs.Tree(limits=limits) as tree:
@@ -278,7 +285,7 @@ class Lists(unittest.TestCase):
                 self.assertEqual(tree.listdir("/"), ["a"])
                 self.assertEqual(re.findall("begin .*", tree.journal()), ["begin 1 0 mknod /a", "begin 2 0 readdir /"])
 
-    def test_copies_and_keeps(self):
+    def test_copies_and_keeps(self) -> None:
         """A tree that forgets by itself notes these calls too, and a copy and a picture of the last calls have these limits."""
         with atomfs.Tree(journal=atomfs.LAST(2)) as tree:
             for _ in range(5):
@@ -292,13 +299,13 @@ class Lists(unittest.TestCase):
 class Words(OfTree):
     """What errors say, beside their number and their path."""
 
-    def says(self, kind, words, call):
+    def says(self, kind: typing.Type[BaseException], words: str, call: typing.Callable[[], object]) -> typing.Any:
         with self.assertRaises(kind) as raised:
             call()
         self.assertEqual(str(raised.exception), words)
         return raised.exception
 
-    def test_limits(self):
+    def test_limits(self) -> None:
         """The message of a limit names it, and tells a full directory from a full tree."""
         with atomfs.Tree(limits=atomfs.Limits.V2) as tree:
             tree.mkdir("/d")
@@ -338,9 +345,9 @@ class Words(OfTree):
                 self.assertRaises(FileNotFoundError, tree.stat, name)
                 self.assertRaises(FileNotFoundError, tree.stat, deep)
 
-    def test_paths(self):
+    def test_paths(self) -> None:
         """What the library says of bytes that are no path, the first check that they fail; of two paths, the one that is none."""
-        for path, words in (
+        rows: Rows = (
             ("a", "[Errno 22] Path does not begin with a slash: 'a'"),
             ("a/" + "n" * 256, f"[Errno 22] Path does not begin with a slash: {'a/' + 'n' * 256!r}"),
             ("/a\0", "[Errno 22] Path has a byte 0: '/a\\x00'"),
@@ -348,32 +355,34 @@ class Words(OfTree):
             ("/a/..", "[Errno 22] A name of the path is . or ..: '/a/..'"),
             ("/a/", "[Errno 22] Path ends with a slash: '/a/'"),
             (b"/" + b"n" * 256, f"[Errno 36] Path has a name of more than 255 bytes: {b'/' + b'n' * 256!r}"),
-        ):
+        )
+        for path, words in rows:
             self.says(OSError, words, lambda: self.tree.stat(path))
             self.says(OSError, words, lambda: self.tree.rename("/a", path))
             self.says(OSError, words, lambda: self.tree.seat().begin.exchange(path, "/a"))
 
-    def test_types(self):
+    def test_types(self) -> None:
         """What is of another type is a `TypeError`, and changes nothing."""
         self.tree.mknod("/f")
         write = "write takes bytes, and this is str: encode it"
-        self.says(TypeError, write, lambda: self.tree.write("/f", 0, "text"))
-        self.says(TypeError, write, lambda: self.tree.seat().begin.write("/f", 0, "text"))
-        self.assertRaises(TypeError, lambda: self.tree.write("/f", 0, 3))
-        for what, call in (
-            ("offset", lambda: self.tree.read("/f", 1.0)),
-            ("count", lambda: self.tree.read("/f", 0, 1.0)),
-            ("offset", lambda: self.tree.write("/f", 1.0, b"")),
-            ("size", lambda: self.tree.truncate("/f", 1.0)),
-            ("limit", lambda: atomfs.Tree(1.0)),
-            ("room", lambda: atomfs.Tree(room=1.0)),
-        ):
+        self.says(TypeError, write, lambda: self.tree.write("/f", 0, "text"))  # type: ignore[arg-type]
+        self.says(TypeError, write, lambda: self.tree.seat().begin.write("/f", 0, "text"))  # type: ignore[arg-type]
+        self.assertRaises(TypeError, lambda: self.tree.write("/f", 0, 3))  # type: ignore[arg-type]
+        rows: Rows = (
+            ("offset", lambda: self.tree.read("/f", 1.0)),  # type: ignore[arg-type]
+            ("count", lambda: self.tree.read("/f", 0, 1.0)),  # type: ignore[arg-type]
+            ("offset", lambda: self.tree.write("/f", 1.0, b"")),  # type: ignore[arg-type]
+            ("size", lambda: self.tree.truncate("/f", 1.0)),  # type: ignore[arg-type]
+            ("limit", lambda: atomfs.Tree(1.0)),  # type: ignore[arg-type]
+            ("room", lambda: atomfs.Tree(room=1.0)),  # type: ignore[arg-type]
+        )
+        for what, call in rows:
             self.says(TypeError, f"{what} is a whole number, and this is float", call)
-        self.says(TypeError, "size is a whole number, and this is str", lambda: self.tree.truncate("/f", "1"))
+        self.says(TypeError, "size is a whole number, and this is str", lambda: self.tree.truncate("/f", "1"))  # type: ignore[arg-type]
         self.says(ValueError, "a negative room", lambda: atomfs.Tree(room=-1))
         self.assertEqual(self.tree.stat("/f"), (False, 0))
 
-    def test_texts(self):
+    def test_texts(self) -> None:
         """The error of a text names its line, and its kind as the program does."""
         header, line = "atomfs-journal 1\n", "a line has no form of its place, or a request no call"
         for kind, words, call in (
@@ -401,7 +410,7 @@ class Words(OfTree):
         ):
             self.assertEqual(self.says(atomfs.Error, words, call).status, kind)
 
-    def test_a_large_journal(self):
+    def test_a_large_journal(self) -> None:
         """A journal that no text of the library could hold is checked as it stands."""
         with atomfs.Tree(limits=atomfs.Limits.V2) as tree:
             tree.mknod("/f")
@@ -415,15 +424,15 @@ class Words(OfTree):
 class Kept(OfTree):
     """How many calls a journal keeps."""
 
-    def numbers(self, tree):
+    def numbers(self, tree: atomfs.Tree) -> typing.Tuple[int, int]:
         return tree.calls_before, tree.calls
 
-    def test_all(self):
+    def test_all(self) -> None:
         for _ in range(50):
             self.tree.stat("/")
         self.assertEqual((self.tree.keeps, *self.numbers(self.tree)), (atomfs.ALL, 0, 50))
 
-    def test_last(self):
+    def test_last(self) -> None:
         with atomfs.Tree(journal=atomfs.LAST(10)) as tree:
             tree.mkdir("/a")
             for number in range(1, 40):
@@ -434,7 +443,7 @@ class Kept(OfTree):
             # It begins with the tree that the calls before have left.
             self.assertIn("\ndir /a\n", tree.journal())
 
-    def test_none(self):
+    def test_none(self) -> None:
         with atomfs.Tree(journal=atomfs.NONE) as tree:
             tree.mknod("/f")
             tree.write("/f", 0, b"hello")
@@ -442,7 +451,7 @@ class Kept(OfTree):
                 tree.stat("/g")
             self.assertEqual((tree.read("/f"), *self.numbers(tree)), (b"hello", 3, 1))
 
-    def test_told_later(self):
+    def test_told_later(self) -> None:
         """What is kept can be said at any time, also none and then all again."""
         for _ in range(20):
             self.tree.stat("/")
@@ -454,7 +463,7 @@ class Kept(OfTree):
             self.tree.stat("/")
         self.assertEqual(self.numbers(self.tree), (20, 21))
 
-    def test_refused(self):
+    def test_refused(self) -> None:
         """A call that does not begin is none that stands."""
         with atomfs.Tree(2, journal=atomfs.LAST(3)) as tree:
             tree.mkdir("/a")
@@ -463,7 +472,7 @@ class Kept(OfTree):
                 self.assertRaises(OSError, tree.mkdir, "no path")
             self.assertEqual((tree.calls_before + tree.calls, tree.readdir("/")), (1, ["a"]))
 
-    def test_replies(self):
+    def test_replies(self) -> None:
         """The reply of a call that is forgotten is no other call's."""
         with atomfs.Tree(journal=atomfs.NONE) as tree:
             seat = tree.seat()
@@ -474,7 +483,7 @@ class Kept(OfTree):
             tree.mkdir("/a")
             self.assertRaises(atomfs.Error, seat.reply)
 
-    def test_under_way(self):
+    def test_under_way(self) -> None:
         """Nothing is forgotten amid a call, and by hand neither."""
         with atomfs.Tree(journal=atomfs.NONE) as tree:
             tree.mkdir("/a")
@@ -487,25 +496,25 @@ class Kept(OfTree):
             self.assertEqual(seat.finish(), atomfs.Stat(True, 0))
             self.assertEqual((tree.forget(), *self.numbers(tree), tree.check()), (6, 7, 0, "lawful"))
 
-    def test_checkpoints(self):
+    def test_checkpoints(self) -> None:
         for _ in range(4):
             self.tree.stat("/")
         self.tree.checkpoint()
         self.tree.stat("/")
         self.assertEqual(self.numbers(self.tree), (4, 1))
 
-    def test_copies(self):
+    def test_copies(self) -> None:
         """A copy keeps as many."""
         with atomfs.Tree(journal=atomfs.LAST(7)) as tree:
             with copy.copy(tree) as other:
                 self.assertEqual(other.keeps, atomfs.LAST(7))
 
-    def test_bad_words(self):
+    def test_bad_words(self) -> None:
         for most in (-1, 2**32 - 1):
             self.assertRaises(ValueError, atomfs.LAST, most)
         self.assertRaises(TypeError, atomfs.LAST, 1.5)
 
-    def test_memory(self):
+    def test_memory(self) -> None:
         """A tree that forgets does not grow: of as many calls as would take 50 MB no entry is left that was."""
         with atomfs.Tree(journal=atomfs.LAST(1_000)) as tree:
             for _ in range(100_000):
@@ -515,31 +524,32 @@ class Kept(OfTree):
 
 
 class OpenAndClosed(OfTree):
-    def test_closed(self):
+    def test_closed(self) -> None:
         self.tree.close()
         self.tree.close()
         self.assertTrue(self.tree.closed)
-        for call in (
+        calls: typing.Tuple[typing.Callable[[], object], ...] = (
             lambda: self.tree.stat("/"),
             self.tree.journal,
             self.tree.checkpoint,
             self.tree.seat,
             self.tree.tree,
-        ):
+        )
+        for call in calls:
             with self.assertRaises(atomfs.ClosedError) as raised:
                 call()
             self.assertEqual(raised.exception.status, atomfs.Status.CLOSED)
 
-    def test_limits(self):
+    def test_limits(self) -> None:
         for limit in (0, -1, atomfs.NODE_LIMIT + 1):
             self.assertRaises(ValueError, atomfs.Tree, limit)
-        self.assertRaises(ValueError, lambda: atomfs.Tree(limits=4))
+        self.assertRaises(ValueError, lambda: atomfs.Tree(limits=4))  # type: ignore[arg-type]
         for limits in atomfs.Limits:
             self.assertRaises(ValueError, atomfs.Tree, limits.nodes + 1, limits=limits)
             with atomfs.Tree(limits=limits) as tree:
                 self.assertEqual((tree.limit, tree.limits), (limits.nodes, limits))
 
-    def test_limits_of_names_and_files(self):
+    def test_limits_of_names_and_files(self) -> None:
         """What each set of limits takes at most, and the version of the journal."""
         headers = (
             "atomfs-journal 1\n",
@@ -557,7 +567,7 @@ class OpenAndClosed(OfTree):
                 self.assertTrue(tree.journal().startswith(header + "begin 1 0 mknod"))
                 self.assertEqual(atomfs.check(tree.journal()), "lawful")
 
-    def test_copies(self):
+    def test_copies(self) -> None:
         """A copy is a tree of its own, by the same limits, whose journal begins at what it has."""
         tree = atomfs.Tree(10, limits=atomfs.Limits.V1)
         self.addCleanup(tree.close)
@@ -580,7 +590,7 @@ class OpenAndClosed(OfTree):
         self.assertRaises(atomfs.ClosedError, copy.copy, self.tree)
         self.assertRaises(atomfs.ClosedError, pickle.dumps, self.tree)
 
-    def test_context(self):
+    def test_context(self) -> None:
         with atomfs.Tree() as tree:
             self.assertFalse(tree.closed)
             self.assertIn("open", repr(tree))
@@ -588,32 +598,32 @@ class OpenAndClosed(OfTree):
 
 
 class Journals(OfTree):
-    def test_journal(self):
+    def test_journal(self) -> None:
         self.tree.mkdir("/a")
         self.assertEqual(
             self.tree.journal(), "atomfs-journal 4\nstart\ndir /\nentries\nbegin 1 0 mkdir /a\ncommit 1\nreturn 1 ok\n"
         )
 
-    def test_check(self):
+    def test_check(self) -> None:
         """A verdict on any journal, and the line of what is none."""
         self.assertEqual(atomfs.check("atomfs-journal 1\n"), "lawful")
         with self.assertRaises(atomfs.Error) as raised:
             atomfs.check("no journal")
         self.assertEqual((raised.exception.status, raised.exception.about), (atomfs.Status.BAD_HEADER, 1))
 
-    def test_a_journal_that_is_not_lawful(self):
+    def test_a_journal_that_is_not_lawful(self) -> None:
         self.assertEqual(
             atomfs.check(b"atomfs-journal 1\nbegin 1 0 mkdir /a\ncommit 1\nreturn 1 failed ENOENT\n"),
             "fault 3 WrongReply",
         )
 
-    def test_run(self):
+    def test_run(self) -> None:
         self.assertEqual(
             atomfs.run("atomfs 1\nschedule\nfinish\n"),
             "atomfs-journal 1\ntree\ndir /\nbegun 0 committed 0 returned 0\n",
         )
 
-    def test_checkpoint(self):
+    def test_checkpoint(self) -> None:
         """The journal in pieces: each of them is lawful, and the tree stays."""
         self.tree.mkdir("/a")
         first = self.tree.checkpoint()
@@ -634,10 +644,10 @@ class Journals(OfTree):
 
 
 class Seats(OfTree):
-    def test_each_begin(self):
+    def test_each_begin(self) -> None:
         """Each call of a seat comes to the reply of its kind."""
         seat = self.tree.seat()
-        rows = (
+        rows: Rows = (
             (seat.begin.mkdir, ("/a",), None),
             (seat.begin.mknod, ("/a/f",), None),
             (seat.begin.write, ("/a/f", 1, bytearray(b"hello")), 5),
@@ -661,7 +671,7 @@ class Seats(OfTree):
                 self.assertEqual(seat.finish(), wanted)
                 self.assertEqual(seat.reply(), wanted)
 
-    def test_great_numbers(self):
+    def test_great_numbers(self) -> None:
         """What is greater than 64 bits is not taken for what is left of it."""
         self.tree.mknod("/f")
         seat = self.tree.seat()
@@ -680,7 +690,7 @@ class Seats(OfTree):
         self.assertEqual(self.tree.read("/f", 2**64, 2**64), b"")
         self.assertEqual(self.tree.stat("/f").size, 0)
 
-    def test_errors(self):
+    def test_errors(self) -> None:
         seat = self.tree.seat()
         seat.begin.rename("/a", "/b")
         self.fails(FileNotFoundError, errno.ENOENT, seat.finish, "/a", "/b")
@@ -690,12 +700,12 @@ class Seats(OfTree):
         self.refuses(atomfs.Status.SEAT_BUSY, lambda: seat.begin.stat("/"))
         self.refuses(atomfs.Status.NO_REPLY, seat.reply)
 
-    def refuses(self, status, call):
+    def refuses(self, status: atomfs.Status, call: typing.Callable[[], object]) -> None:
         with self.assertRaises(atomfs.Error) as raised:
             call()
         self.assertEqual(raised.exception.status, status)
 
-    def test_replies_and_checkpoints(self):
+    def test_replies_and_checkpoints(self) -> None:
         """A reply is not told after a checkpoint, where another call has the number."""
         seat, other = self.tree.seat(), self.tree.seat()
         self.refuses(atomfs.Status.NO_REPLY, seat.reply)
@@ -706,7 +716,7 @@ class Seats(OfTree):
         other.finish()
         self.refuses(atomfs.Status.NO_REPLY, seat.reply)
 
-    def test_names(self):
+    def test_names(self) -> None:
         """The name of a seat stands in the journal, in each piece of it, as a comment."""
         writer = self.tree.seat(name="writer")
         self.assertEqual((writer.name, self.tree.seat().name), ("writer", None))
@@ -726,7 +736,7 @@ class Seats(OfTree):
             tree.seat(name="w")
             self.assertEqual((tree.journal(), tree.check()), ("atomfs-journal 1\n# seat 1 w\n", "lawful"))
 
-    def test_helping(self):
+    def test_helping(self) -> None:
         """A rename helps a mkdir that is half-way below the directory that it moves."""
         self.tree.mkdir("/a")
         self.tree.mkdir("/a/d")
@@ -735,14 +745,14 @@ class Seats(OfTree):
         for _ in range(5):
             maker.step()
         mover.begin.rename("/a", "/b")
-        steps = []
+        steps: typing.List[atomfs.Step] = []
         while not steps or steps[-1].did != Did.RETURN:
             steps.append(mover.step())
         self.assertIn(atomfs.Step(Did.HELP, number), steps)
         maker.finish()
         self.assertEqual(self.tree.readdir("/b/d"), ["x"])
 
-    def test_step_any(self):
+    def test_step_any(self) -> None:
         """Of two calls, the first of which waits for the second, the second goes on; then the first does."""
         self.assertIsNone(self.tree.step_any())
         one, other = self.tree.seat(), self.tree.seat()
@@ -758,7 +768,7 @@ class Seats(OfTree):
         self.assertIsNone(one.reply())
         self.assertFalse(self.tree.exists("/a"))
 
-    def test_waits(self):
+    def test_waits(self) -> None:
         """A call of the tree that meets a node of another seat stays under way, and the tree goes on with others."""
         self.tree.mkdir("/a")
         seat = self.tree.seat()
@@ -775,11 +785,11 @@ class Seats(OfTree):
 
 
 class Threads(OfTree):
-    def together(self, works):
+    def together(self, works: typing.Iterable[typing.Callable[[], object]]) -> None:
         """Runs works on threads of their own, and raises what one of them raised."""
         raised = []
 
-        def guarded(work):
+        def guarded(work: typing.Callable[[], object]) -> None:
             try:
                 work()
             except Exception as error:
@@ -792,30 +802,31 @@ class Threads(OfTree):
             thread.join()
         self.assertEqual(raised, [])
 
-    def test_one_tree(self):
+    def test_one_tree(self) -> None:
         """Threads share a tree without a lock of their own."""
         self.tree.mknod("/f")
 
-        def work(thread):
+        def work(thread: int) -> None:
             for round_ in range(200):
                 self.tree.mkdir(f"/d{thread}")
                 self.tree.write("/f", thread, bytes([thread]))
                 self.assertEqual(self.tree.read("/f", thread, 1), bytes([thread]))
                 self.tree.rmdir(f"/d{thread}")
 
-        self.together([lambda thread=thread: work(thread) for thread in range(4)])
+        self.together([functools.partial(work, thread) for thread in range(4)])
         self.assertEqual(self.tree.readdir("/"), ["f"])
 
-    def test_seats(self):
+    def test_seats(self) -> None:
         """Each thread makes the steps of its own seat, so calls meet half-way."""
 
-        def work(seat):
+        def work(seat: typing.Any) -> None:
+            begins: typing.Tuple[typing.Callable[[], object], ...] = (
+                lambda: seat.begin.mkdir("/d"),
+                lambda: seat.begin.rename("/d", "/e"),
+                lambda: seat.begin.rmdir("/e"),
+            )
             for _ in range(100):
-                for begin in (
-                    lambda: seat.begin.mkdir("/d"),
-                    lambda: seat.begin.rename("/d", "/e"),
-                    lambda: seat.begin.rmdir("/e"),
-                ):
+                for begin in begins:
                     begin()
                     try:
                         seat.finish(wait=True)
@@ -823,38 +834,38 @@ class Threads(OfTree):
                         pass
 
         seats = [self.tree.seat() for _ in range(4)]
-        self.together([lambda seat=seat: work(seat) for seat in seats])
+        self.together([functools.partial(work, seat) for seat in seats])
         self.assertEqual(self.tree.journal().count("\nreturn "), 1200)
 
-    def seats_of(self, pattern):
+    def seats_of(self, pattern: str) -> typing.List[str]:
         """The seats of the calls of the journal that match."""
         return re.findall(rf"(?m)^begin \d+ (\d+) {pattern}", self.tree.journal())
 
-    def test_seat_of_a_thread(self):
+    def test_seat_of_a_thread(self) -> None:
         """Each thread has one seat, and what a thread that has ended leaves is of another."""
         self.tree.mkdir("/main")
         for round_ in range(3):
             barrier = threading.Barrier(4)
 
-            def work(thread):
+            def work(thread: int) -> None:
                 self.tree.mkdir(f"/{round_}_{thread}")
                 barrier.wait(10)
                 self.tree.stat(f"/{round_}_{thread}")
 
-            self.together([lambda thread=thread: work(thread) for thread in range(4)])
+            self.together([functools.partial(work, thread) for thread in range(4)])
             self.assertEqual(sorted(self.seats_of(f"mkdir /{round_}_")), ["1", "2", "3", "4"])
             for thread in range(4):
                 self.assertEqual(self.seats_of(f"stat /{round_}_{thread}"), self.seats_of(f"mkdir /{round_}_{thread}"))
         self.assertEqual((self.seats_of("mkdir /main"), self.tree.seat().number), (["0"], 5))
 
-    def test_seat_of_a_call_that_waits(self):
+    def test_seat_of_a_call_that_waits(self) -> None:
         """A call that waits keeps the seat; its thread goes on with another, and no thread gets the first."""
         seat = self.tree.seat()
         seat.begin.mkdir("/a")
         seat.step()
         waiting = []
 
-        def wait():
+        def wait() -> None:
             with self.assertRaises(atomfs.WaitsError) as raised:
                 self.tree.stat("/")
             waiting.append(raised.exception.seat)
@@ -866,27 +877,27 @@ class Threads(OfTree):
         self.assertEqual(self.seats_of("stat /a"), ["3"])
         self.assertEqual(waiting[0].finish(), Stat(True, 1))
 
-    def test_closed_tree(self):
+    def test_closed_tree(self) -> None:
         """A thread that comes to a closed tree gets no seat, and its error."""
         self.tree.close()
         self.together([lambda: self.assertRaises(atomfs.ClosedError, self.tree.stat, "/")])
 
-    def test_pieces(self):
+    def test_pieces(self) -> None:
         """A thread hands the journal out whenever no call is under way, and no other misses a reply by that."""
         pieces, working = [], [True, True]
 
-        def work(thread):
+        def work(thread: int) -> None:
             seat = self.tree.seat()
             for _ in range(200):
                 seat.begin.mkdir(f"/d{thread}")
                 seat.finish(wait=True)
                 seat.begin.readdir("/")
-                self.assertIn(f"d{thread}", seat.finish(wait=True))
+                self.assertIn(f"d{thread}", seat.finish(wait=True))  # type: ignore[arg-type]
                 seat.begin.rmdir(f"/d{thread}")
                 seat.finish(wait=True)
             working[thread] = False
 
-        def hand_out():
+        def hand_out() -> None:
             while any(working):
                 try:
                     pieces.append(self.tree.checkpoint())
@@ -900,7 +911,7 @@ class Threads(OfTree):
 
 
 class Names(unittest.TestCase):
-    def test_words_of_os(self):
+    def test_words_of_os(self) -> None:
         """The words of `os` and `shutil` do what those of the calls do."""
         with atomfs.Tree() as tree:
             tree.touch("/f")
@@ -928,7 +939,7 @@ class Names(unittest.TestCase):
             tree.remove("/d/f")
             self.assertEqual((list(tree), tree.check()), (["/", "/c", "/c/e", "/d", "/d/e"], "lawful"))
 
-    def test_near_words(self):
+    def test_near_words(self) -> None:
         with atomfs.Tree() as tree:
             for name, near in (
                 ("is_fil", "is_file"),
@@ -941,10 +952,10 @@ class Names(unittest.TestCase):
                 ):
                     getattr(tree, name)
             with self.assertRaisesRegex(AttributeError, "has no attribute 'zzzz'$"):
-                tree.zzzz
+                tree.zzzz  # type: ignore[attr-defined]
             self.assertFalse(hasattr(tree, "__fspath__"))
 
-    def test_errors_name_the_call(self):
+    def test_errors_name_the_call(self) -> None:
         with atomfs.Tree() as tree:
             seat = tree.seat("writer")
             self.assertEqual(repr(seat), f"<atomfs.Seat {seat.number} 'writer': no call yet>")

@@ -9,11 +9,14 @@ import stat
 import sys
 import tempfile
 import threading
+import typing
 import unittest
 
 import atomfs
 from atomfs import Path, Stat
 
+# Rows of a test.
+Rows = typing.Iterable[typing.Tuple[typing.Any, ...]]
 DRAWN = """\
 /
 ├── a/
@@ -26,21 +29,21 @@ DRAWN = """\
 class OfTree(unittest.TestCase):
     """A test with a tree whose journal has to be lawful at its end."""
 
-    def setUp(self):
+    def setUp(self) -> None:
         self.tree = atomfs.Tree(1000)
         self.addCleanup(self.tree.close)
 
-    def tearDown(self):
+    def tearDown(self) -> None:
         if not self.tree.closed:
             self.assertEqual(self.tree.check(), "lawful")
 
-    def fill(self):
+    def fill(self) -> None:
         self.tree.makedirs("/a/b")
         self.tree.write_bytes("/a/b/f", b"abc")
         self.tree.write_bytes("/a/g", b"g")
         self.tree.mkdir("/z")
 
-    def fails(self, kind, number, call, *paths):
+    def fails(self, kind: typing.Type[OSError], number: int, call: typing.Callable[[], object], *paths: object) -> None:
         """A call that raises an `OSError` of this class, number and these paths, and leaves the tree as it was."""
         before = self.tree.tree()
         with self.assertRaises(OSError) as raised:
@@ -52,7 +55,7 @@ class OfTree(unittest.TestCase):
 
 
 class Looks(OfTree):
-    def test_views(self):
+    def test_views(self) -> None:
         """`repr`, `str`, `len`, iteration and `in`: without a call, but for `in`."""
         self.assertEqual(repr(self.tree), "<atomfs.Tree open: 1 of 1,000 nodes, 0 calls, Limits.V3>")
         self.assertEqual((str(self.tree), len(self.tree), list(self.tree)), ("/", 1, ["/"]))
@@ -70,21 +73,21 @@ class Looks(OfTree):
         self.assertRaises(atomfs.ClosedError, list, self.tree)
         self.assertRaises(atomfs.ClosedError, lambda: "/" in self.tree)
 
-    def test_names_as_they_are(self):
+    def test_names_as_they_are(self) -> None:
         """Names with any bytes, and a drawn tree on lines of its own."""
         self.tree.mknod(b"/\xff\n %")
         self.assertEqual(list(self.tree), ["/", "/\udcff\n %"])
         self.assertIn(list(self.tree)[1], self.tree)
         self.assertEqual(str(self.tree), "/\n└── \ufffd? % (0 bytes)")
 
-    def test_drawn_in_part(self):
+    def test_drawn_in_part(self) -> None:
         """Of many nodes the first 40 are drawn, and the others counted; a branch goes on where more of it follows."""
         for at in range(60):
             self.tree.mknod(f"/{at:02}")
         lines = str(self.tree).splitlines()
         self.assertEqual((len(lines), lines[39], lines[40]), (41, "├── 38 (0 bytes)", "and 21 more"))
 
-    def test_calls(self):
+    def test_calls(self) -> None:
         """How many calls have begun, by the tree and by seats, and the last of them with their replies."""
         self.tree.mkdir("/a")
         seat = self.tree.seat()
@@ -101,7 +104,7 @@ class Looks(OfTree):
         self.tree.write("/f", 0, bytes(1000))
         self.assertEqual(self.tree.last_calls(1), ["write /f 0 " + "0" * 89 + "..: wrote 1000"])
 
-    def test_stat(self):
+    def test_stat(self) -> None:
         """The fields of a stat that a tree has, and what it says of the others."""
         self.fill()
         of_file, of_root = self.tree.stat("/a/b/f"), self.tree.stat("/")
@@ -117,9 +120,9 @@ class Looks(OfTree):
             with self.assertRaisesRegex(AttributeError, f"{field}: a tree keeps no {words}"):
                 getattr(of_file, field)
 
-    def test_kinds(self):
+    def test_kinds(self) -> None:
         self.fill()
-        rows = (("/", True), ("/a/b", True), ("/a/g", False), ("/x", None), ("/a/g/x", None), (b"/z", True))
+        rows: Rows = (("/", True), ("/a/b", True), ("/a/g", False), ("/x", None), ("/a/g/x", None), (b"/z", True))
         for path, is_dir in rows:
             kinds = self.tree.exists(path), self.tree.is_dir(path), self.tree.is_file(path)
             self.assertEqual(kinds, (is_dir is not None, is_dir is True, is_dir is False))
@@ -127,7 +130,7 @@ class Looks(OfTree):
 
 
 class Directories(OfTree):
-    def test_makedirs(self):
+    def test_makedirs(self) -> None:
         self.tree.makedirs("/a/b/c")
         self.tree.makedirs(pathlib.PurePosixPath("/a/b/c"), exist_ok=True)
         self.fails(FileExistsError, errno.EEXIST, lambda: self.tree.makedirs("/a/b/c"), "/a/b/c")
@@ -139,11 +142,11 @@ class Directories(OfTree):
         self.tree.makedirs("//s//t///u")
         self.assertEqual(list(self.tree)[5:], ["/s", "/s/t", "/s/t/u"])
 
-    def test_makedirs_of_threads(self):
+    def test_makedirs_of_threads(self) -> None:
         """Threads that make branches with one trunk come to all of them."""
         raised = []
 
-        def work(thread):
+        def work(thread: int) -> None:
             try:
                 for at in range(30):
                     self.tree.makedirs(f"/{at}/d/{thread}")
@@ -157,14 +160,14 @@ class Directories(OfTree):
             thread.join()
         self.assertEqual((raised, len(self.tree)), ([], 1 + 30 * 6))
 
-    def test_walk(self):
+    def test_walk(self) -> None:
         self.fill()
         down = [("/", ["a", "z"], []), ("/a", ["b"], ["g"]), ("/a/b", [], ["f"]), ("/z", [], [])]
         self.assertEqual(list(self.tree.walk()), down)
         self.assertEqual(list(self.tree.walk("/a")), down[1:3])
         self.assertEqual([path for path, *_ in self.tree.walk(topdown=False)], ["/a/b", "/a", "/z", "/"])
         self.assertEqual(list(self.tree.walk("/x")), [])
-        errors = []
+        errors: typing.List[OSError] = []
         self.assertEqual(list(self.tree.walk("/x", onerror=errors.append)), [])
         self.assertEqual([error.filename for error in errors], ["/x"])
         for path, directories, _ in self.tree.walk():
@@ -175,10 +178,10 @@ class Directories(OfTree):
         self.tree.rmtree("/a")
         self.assertEqual(list(walked), [("/z", [], [])])
 
-    def test_glob(self):
+    def test_glob(self) -> None:
         self.fill()
         self.tree.mknod("/z/.f")
-        rows = (
+        rows: Rows = (
             ("/*", ["/a", "/z"]),
             ("/a/?", ["/a/b", "/a/g"]),
             ("/*/[!b]", ["/a/g"]),
@@ -196,7 +199,7 @@ class Directories(OfTree):
                 self.assertEqual(self.tree.glob(pattern), paths)
         self.fails(OSError, errno.EINVAL, lambda: self.tree.glob("a/*"), "a/*")
 
-    def test_rmtree(self):
+    def test_rmtree(self) -> None:
         self.fill()
         self.fails(FileNotFoundError, errno.ENOENT, lambda: self.tree.rmtree("/x"), "/x")
         self.fails(NotADirectoryError, errno.ENOTDIR, lambda: self.tree.rmtree("/a/g"), "/a/g")
@@ -206,7 +209,7 @@ class Directories(OfTree):
         self.tree.rmtree("/")
         self.assertEqual(list(self.tree), ["/"])
 
-    def test_copy(self):
+    def test_copy(self) -> None:
         self.fill()
         self.tree.copy("/a", "/c")
         self.assertEqual(list(self.tree)[5:], ["/c", "/c/b", "/c/b/f", "/c/g", "/z"])
@@ -223,16 +226,16 @@ class Directories(OfTree):
             self.assertRaises(shutil.SameFileError, self.tree.copy, "/new", same)
         self.assertEqual(self.tree.read("/new"), b"abc")
 
-    def test_rmtree_that_is_refused(self):
+    def test_rmtree_that_is_refused(self) -> None:
         """What cannot be removed is raised, or left with what is above it."""
         self.fill()
-        self.tree.rmdir, refused = lambda path: self.tree.unlink("/x"), self.tree.rmdir
+        self.tree.rmdir, refused = lambda path: self.tree.unlink("/x"), self.tree.rmdir  # type: ignore[assignment]
         self.assertRaises(FileNotFoundError, self.tree.rmtree, "/a")
         self.tree.rmtree("/a", ignore_errors=True)
-        self.tree.rmdir = refused
+        self.tree.rmdir = refused  # type: ignore[assignment]
         self.assertEqual(list(self.tree), ["/", "/a", "/a/b", "/z"])
 
-    def test_copy_without_room(self):
+    def test_copy_without_room(self) -> None:
         """Of a directory that is not copied whole nothing stays."""
         with atomfs.Tree(9) as tree:
             tree.makedirs("/a/b/c")
@@ -245,7 +248,7 @@ class Directories(OfTree):
 
 
 class Files(OfTree):
-    def test_bytes_and_texts(self):
+    def test_bytes_and_texts(self) -> None:
         self.assertEqual(self.tree.write_bytes("/f", b"longer"), 6)
         self.assertEqual(self.tree.write_bytes("/f", bytearray(b"abc")), 3)
         self.assertEqual((self.tree.read_bytes("/f"), self.tree.read_text("/f")), (b"abc", "abc"))
@@ -259,21 +262,21 @@ class Files(OfTree):
         self.tree.write_bytes("/t", b"\xff")
         self.assertRaises(UnicodeDecodeError, self.tree.read_text, "/t")
         with self.assertRaisesRegex(TypeError, "write_bytes takes bytes, and this is str: encode it"):
-            self.tree.write_bytes("/f", "text")
+            self.tree.write_bytes("/f", "text")  # type: ignore[arg-type]
         with self.assertRaisesRegex(TypeError, "write_text takes str, and this is bytes"):
-            self.tree.write_text("/f", b"bytes")
+            self.tree.write_text("/f", b"bytes")  # type: ignore[arg-type]
         self.assertRaises(TypeError, self.tree.write_bytes, "/new", 3)
         self.assertEqual((self.tree.read("/f"), self.tree.exists("/new")), (b"abc", False))
 
     @unittest.skipIf(sys.version_info < (3, 10), "the encoding of the locale has a name from 3.10 on")
-    def test_encoding_of_the_locale(self):
+    def test_encoding_of_the_locale(self) -> None:
         self.assertEqual(self.tree.write_text("/t", "text", "locale"), 4)
         self.assertEqual(self.tree.read_text("/t", "locale"), "text")
         with self.tree.open("/t", "a", encoding="locale") as file:
             file.write("+")
         self.assertEqual(self.tree.read("/t"), b"text+")
 
-    def test_a_write_that_fails(self):
+    def test_a_write_that_fails(self) -> None:
         """The file is as it was, and one that was not there is not made."""
         self.tree = atomfs.Tree(limits=atomfs.Limits.V2)
         self.addCleanup(self.tree.close)
@@ -283,11 +286,11 @@ class Files(OfTree):
             self.fails(OSError, errno.EFBIG, lambda: self.tree.write_bytes(path, large), path)
             self.fails(FileNotFoundError, errno.ENOENT, lambda: self.tree.write_text("/x/f", "t"), "/x/f")
 
-    def test_open(self):
+    def test_open(self) -> None:
         """Each mode in text and bytes, and what a file object is asked for."""
         with self.tree.open("/t", "w") as file:
             self.assertIsInstance(file, io.TextIOWrapper)
-            self.assertEqual((file.name, file.mode, file.encoding, file.write("one\ntwo\n")), ("/t", "w", "utf-8", 8))
+            self.assertEqual((file.name, file.mode, file.encoding, file.write("one\ntwo\n")), ("/t", "w", "utf-8", 8))  # type: ignore[attr-defined]
         with self.tree.open(pathlib.PurePosixPath("/t"), "a") as file:
             file.write("\N{SNOWMAN}")
         with self.tree.open("/t") as file:
@@ -312,7 +315,7 @@ class Files(OfTree):
             file.write("line\n")
             self.assertEqual(self.tree.read("/l"), b"line\r\n")
 
-    def test_as_a_raw_file_of_the_disk(self):
+    def test_as_a_raw_file_of_the_disk(self) -> None:
         """What a file object without a buffer refuses is what one of the disk refuses, and it stays where it was."""
         self.tree.write_bytes("/f", b"abc")
         calls = (
@@ -332,18 +335,20 @@ class Files(OfTree):
                     self.assertEqual(found[0], found[1])
         # Those of the disk take such numbers before 3.10.
         with self.tree.open("/f", "rb+", 0) as file:
-            for call in (file.seek, file.truncate):
-                self.assertRaises(TypeError, call, 1.5)
+            moves: typing.Tuple[typing.Callable[..., object], ...] = file.seek, file.truncate
+            for move in moves:
+                self.assertRaises(TypeError, move, 1.5)
 
     @staticmethod
-    def raised(call, *given):
+    def raised(call: typing.Callable[..., object], *given: typing.Any) -> typing.Optional[Exception]:
         """The exception of a call, if it raises one."""
         try:
             call(*given)
         except Exception as error:
             return error
+        return None
 
-    def test_refused_opens(self):
+    def test_refused_opens(self) -> None:
         self.tree.write_bytes("/f", b"abc")
         self.fails(FileExistsError, errno.EEXIST, lambda: self.tree.open("/f", "x"), "/f")
         self.fails(FileNotFoundError, errno.ENOENT, lambda: self.tree.open("/x"), "/x")
@@ -367,7 +372,7 @@ class Files(OfTree):
         self.assertRaises(TypeError, self.tree.open, 3)
         self.assertEqual(self.tree.read("/f"), b"abc")
 
-    def test_a_file_whose_path_went_away(self):
+    def test_a_file_whose_path_went_away(self) -> None:
         self.tree.write_text("/f", "abc")
         file, after = self.tree.open("/f"), self.tree.open("/f", "r+")
         self.tree.rename("/f", "/g")
@@ -381,12 +386,12 @@ class Files(OfTree):
 
 
 class Paths(OfTree):
-    def setUp(self):
+    def setUp(self) -> None:
         super().setUp()
         self.fill()
         self.root = self.tree.path()
 
-    def test_pure(self):
+    def test_pure(self) -> None:
         """It is a pure path, and what pathlib makes of it is a path of the same tree."""
         path = Path("/a", "b/f", tree=self.tree)
         self.assertIsInstance(path, pathlib.PurePosixPath)
@@ -409,7 +414,7 @@ class Paths(OfTree):
         self.assertEqual((repr(path), path.name, self.tree.path("/a/b/f")), ("atomfs.Path('/a/b/f')", "f", path))
         self.assertRaisesRegex(TypeError, "a Path is one of a tree", Path, "/a")
 
-    def test_copies(self):
+    def test_copies(self) -> None:
         """A copied path is of the same tree, and one that is deeply copied or pickled of a copy of its tree."""
         path = self.root / "a" / "g"
         self.assertIs(copy.copy(path).tree, self.tree)
@@ -417,7 +422,7 @@ class Paths(OfTree):
             self.addCleanup(other.tree.close)
             self.assertEqual((other, other.read_bytes(), other.tree is self.tree), (path, b"g", False))
 
-    def test_looks(self):
+    def test_looks(self) -> None:
         self.assertEqual([str(path) for path in self.root.iterdir()], ["/a", "/z"])
         self.assertEqual([str(path) for path in (self.root / "a").glob("*")], ["/a/b", "/a/g"])
         self.assertEqual([str(path) for path in self.root.rglob("f")], ["/a/b/f"])
@@ -441,7 +446,7 @@ class Paths(OfTree):
         self.assertRaises(NotImplementedError, self.root.glob, "/a")
         self.assertRaises(NotImplementedError, self.root.rglob, "/f")
 
-    def test_changes(self):
+    def test_changes(self) -> None:
         path = self.root / "n" / "m"
         self.fails(FileNotFoundError, errno.ENOENT, path.mkdir, path)
         path.mkdir(parents=True)
@@ -466,13 +471,13 @@ class Paths(OfTree):
         path.rmdir()
         self.assertEqual(list(self.tree), ["/", "/a", "/a/b", "/a/b/f", "/a/g", "/n", "/z"])
 
-    def test_resolve(self):
+    def test_resolve(self) -> None:
         self.assertEqual(str((self.root / "a/../../z").resolve(strict=True)), "/z")
         self.assertEqual(str(self.tree.path("a").absolute()), "/a")
         self.assertRaises(FileNotFoundError, (self.root / "x/../y").resolve, strict=True)
         self.fails(OSError, errno.EINVAL, self.tree.path("a").stat, self.tree.path("a"))
 
-    def test_what_a_tree_has_not(self):
+    def test_what_a_tree_has_not(self) -> None:
         for name, words in (
             *((name, "links") for name in ("symlink_to", "hardlink_to", "readlink")),
             *((name, "owners") for name in ("owner", "group")),

@@ -34,17 +34,22 @@ impl Event {
         self.did.is_none()
     }
 
+    /// The line of the source that made the call.
+    pub(crate) fn at(&self) -> &'static Location<'static> {
+        self.at
+    }
+
     /// The event as a line of a trace, with calls as they are spelled.
     pub(crate) fn line(&self, names: &[String], spelled: &BTreeMap<u64, String>) -> String {
         let call = |number: &u64| spelled.get(number).cloned().unwrap_or_else(|| format!("call {number}"));
         let did = match &self.did {
             None | Some(Did::Began(_)) => "begins".to_owned(),
-            Some(Did::Took(node)) => format!("takes node {node}"),
+            Some(Did::Took(node)) => format!("locks node {node}"),
             Some(Did::WaitsFor(number)) => format!("waits for {}", call(number)),
-            Some(Did::LetGo(node)) => format!("lets node {node} go"),
+            Some(Did::LetGo(node)) => format!("unlocks node {node}"),
             Some(Did::Helped(number)) => format!("helps {}", call(number)),
             Some(Did::Committed) => "commits".to_owned(),
-            Some(Did::CarriedOut) => "carries out, since it was helped".to_owned(),
+            Some(Did::CarriedOut) => "makes its change, since it was helped".to_owned(),
             Some(Did::Returned) => "returns".to_owned(),
             Some(Did::Idle) => "is idle".to_owned(),
         };

@@ -13,7 +13,7 @@ use crate::bar::Bar;
 use crate::baton::{Baton, Event, Stopped, ThreadTree};
 use crate::draws::Chooser;
 use crate::limits::Limits;
-use crate::page::page;
+use crate::page::{page_with, sources};
 use crate::texts::{self, Schedule};
 use crate::tree::Tree;
 use crate::NODE_LIMIT;
@@ -245,6 +245,8 @@ pub struct FailedRun {
     pub journal: String,
     /// A script that `atomfs run` plays with the same journal. Some runs have none.
     pub script: Option<String>,
+    /// Which line made each call, in the order in which the calls began.
+    made_at: Vec<&'static Location<'static>>,
 }
 
 impl ScheduleError {
@@ -254,8 +256,8 @@ impl ScheduleError {
     }
 
     fn new(fault: ScheduleFault, seed: Option<u64>) -> ScheduleError {
-        let (schedule, trace, journal) = (String::new(), Vec::new(), String::new());
-        ScheduleError(Box::new(FailedRun { fault, seed, schedule, trials: 0, trace, journal, script: None }))
+        let (schedule, trace, journal, made_at) = (String::new(), Vec::new(), String::new(), Vec::new());
+        ScheduleError(Box::new(FailedRun { fault, seed, schedule, trials: 0, trace, journal, script: None, made_at }))
     }
 
     /// A picture of the run, as an SVG file.
@@ -264,9 +266,10 @@ impl ScheduleError {
     }
 
     /// A page that plays the run event by event in a browser, as [`page`](crate::page()) makes it. It plays the script,
-    /// or the journal if there is no script.
+    /// or the journal if there is no script. It also shows which line of the source made each call.
     pub fn page(&self) -> Result<String, crate::Error> {
-        page(self.script.as_ref().unwrap_or(&self.journal), Schedule::Given)
+        let text = self.script.as_ref().unwrap_or(&self.journal);
+        page_with(text.as_bytes(), Schedule::Given, &sources(&self.made_at))
     }
 }
 
@@ -592,8 +595,10 @@ impl<'p, R: Send + 'static> Player<'_, 'p, R> {
         let trace = ran.events.iter().skip(ran.before).map(|event| event.line(&ran.names, &spelled)).collect();
         let schedule = words_of(&ran.order, &ran.names);
         let script = script_of(&ran, &spelled);
+        let made_at = ran.events.iter().filter(|event| event.is_begin()).map(Event::at).collect();
         let fault = ran.fault.unwrap_or_else(|| ScheduleFault::NoPlan("the run is well".to_owned()));
-        ScheduleError(Box::new(FailedRun { fault, seed, schedule, trials, trace, journal: ran.journal, script }))
+        let journal = ran.journal;
+        ScheduleError(Box::new(FailedRun { fault, seed, schedule, trials, trace, journal, script, made_at }))
     }
 }
 

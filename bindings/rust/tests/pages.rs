@@ -117,7 +117,7 @@ const HOSTILE: [&[u8]; 7] = [
 /// A page has the signs of HTML that the stored one and the picture have, and nothing but ASCII.
 fn is_harmless(page: &str) {
     assert!(page.is_ascii() && !page.contains(['\r', '\t']));
-    assert_eq!((page.matches("</pre>").count(), page.matches("<script>").count()), (1, 1));
+    assert_eq!((page.matches("</pre>").count(), page.matches("<script>").count()), (1, 2));
     assert!(!page.contains("<!--") && !page.contains("alert(1)<"));
 }
 
@@ -165,7 +165,7 @@ fn trees() {
     assert_eq!(tree.page().unwrap(), page(journal, Schedule::Given));
 }
 
-/// The page of a run that failed plays its script.
+/// The page of a run that failed plays its script, and shows the lines of the source that made its calls.
 #[test]
 fn failed_runs() {
     let plan = |plan: &mut Plan<'_, ()>| {
@@ -177,10 +177,19 @@ fn failed_runs() {
     };
     let error = explore(1..9, plan).unwrap_err();
     let script = error.script.as_ref().expect("a script");
-    assert_eq!(error.page().unwrap(), page(script, Schedule::Given));
     is_harmless(&error.page().unwrap());
-    let (_, trace) = parts(&error.page().unwrap());
-    assert_eq!(trace, atomfs::trace(script, Schedule::Given, false).unwrap());
+    let (picture, text) = parts(&error.page().unwrap());
+    let (notes, trace) = text.split_at(text.find("atomfs-trace").expect("a trace"));
+    assert_eq!((picture, trace.to_owned()), parts(&page(script, Schedule::Given)));
+    let of_a_thread = "plan.thread(name, move |tree| tree.mkdir(format!(\"/</{name}>\")).unwrap_or_default());";
+    let lines = ["plan.before(|tree| tree.mkdir([b\"/\", HOSTILE[2]].concat()).unwrap());", of_a_thread, of_a_thread];
+    assert_eq!(notes.lines().count(), lines.len());
+    for ((number, line), note) in (1..).zip(lines).zip(notes.lines()) {
+        let words = note.strip_prefix(&format!("# source {number} {}:", file!())).expect("a note");
+        let (_, shown) = words.split_once(' ').unwrap_or((words, ""));
+        // A test may run where the source is not found.
+        assert!(shown == line || shown.is_empty(), "{note}");
+    }
     let none = explore(3..3, plan).unwrap_err();
     assert!(matches!(none.page().unwrap_err().kind(), ErrorKind::BadText(..)));
 }

@@ -35,7 +35,7 @@ pub(crate) fn draw<R: Source, W: Sink>(
 fn report_page<E: Write>(errors: &mut E) -> u8 {
     let _ = writeln!(
         errors,
-        "atomfs: a terminal shows no page: write it to a file by `> run.html` behind the command"
+        "atomfs: a terminal shows no page: write it to a file with `> run.html` after the command"
     );
     2
 }

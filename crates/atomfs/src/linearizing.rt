@@ -1,20 +1,30 @@
-//! What is found of histories, which is told on a terminal as far as it is.
+//! What is found of histories, with a terminal that shows how far the search is.
 
 ghost use Rattle.std.specs.Prelude.{◌-◌, ◌<◌, ◌^◌};
 
-use fs_command::{Line, Screen};
+use fs_arguments::{Histories as Asked, Recorded};
+use fs_command::{
+    Kept, Line, Screen, report_file, report_linearize, report_many, report_minimized, report_table,
+    report_unopened, report_unwritten,
+};
+use fs_dialects::{Dialect, known_table, read_dialect};
 use fs_minimal::{Minimized, minimize_history};
-use fs_recorded::{Histories, Linearized, Untold, linearize_history, linearize_many};
-use fs_sched::{RunFault, Sink, Source};
+use fs_recorded::{Failing, Histories, Linearized, Untold, linearize_history, linearize_many};
+use fs_sched::{Device, RunFault, Sink, Source};
+use fs_start::whole_text;
 use std::alloc::Global;
+use std::fs::{File, create_dir_all};
+use std::io::{self, Write};
+use std::rt::Files;
 use std::time::Clock;
 
-/// Linearizes a history, and tells on a terminal how far that is.
-pub(crate) fn linearize_shown<C: Clock, R: Source, W: Sink>(
+/// Linearizes a history, and shows on a terminal how far that is.
+fn linearize_shown<C: Clock, R: Source, W: Sink>(
     clock: &C,
     alloc: Global,
     reader: &mut R,
     writer: &mut W,
+    dialect: &Dialect,
     limit: usize,
     front: bool,
     screen: &Screen,
@@ -23,41 +33,44 @@ pub(crate) fn linearize_shown<C: Clock, R: Source, W: Sink>(
     requires writes { W.failures writer.old < 2 ^ 64 - 1 }
 {
     if !screen.is_terminal() {
-        return linearize_history(alloc, reader, writer, limit, front, &mut Untold);
+        return linearize_history(alloc, reader, writer, dialect, limit, front, &mut Untold);
     }
     let mut line = Line::new(clock, screen);
-    let outcome = linearize_history(alloc, reader, writer, limit, front, &mut line);
+    let outcome = linearize_history(alloc, reader, writer, dialect, limit, front, &mut line);
     screen.erase();
     outcome
 }
 
-/// Linearizes histories one after the other, and tells on a terminal how far that is.
-pub(crate) fn many_shown<C: Clock, R: Source, W: Sink>(
+/// Linearizes histories one after the other, and shows on a terminal how far that is.
+fn many_shown<C: Clock, R: Source, W: Sink>(
     clock: &C,
     alloc: Global,
     reader: &mut R,
     writer: &mut W,
+    dialect: &Dialect,
     limit: usize,
+    failing: bool,
     screen: &Screen,
 ) -> Result<Histories, RunFault>
     requires reads { R.failures reader.old < 2 ^ 64 - 1 }
     requires writes { W.failures writer.old < 2 ^ 64 - 1 }
 {
     if !screen.is_terminal() {
-        return linearize_many(alloc, reader, writer, limit, &mut Untold);
+        return linearize_many(alloc, reader, writer, dialect, limit, failing, &mut Untold);
     }
     let mut line = Line::new(clock, screen);
-    let outcome = linearize_many(alloc, reader, writer, limit, &mut line);
+    let outcome = linearize_many(alloc, reader, writer, dialect, limit, failing, &mut line);
     screen.erase();
     outcome
 }
 
-/// Leaves of a history without an order the calls that show it, and tells on a terminal how far that is.
-pub(crate) fn minimize_shown<C: Clock, R: Source, W: Sink>(
+/// Cuts a history without an order down to the calls that show it, and shows on a terminal how far that is.
+fn minimize_shown<C: Clock, R: Source, W: Sink>(
     clock: &C,
     alloc: Global,
     reader: &mut R,
     writer: &mut W,
+    dialect: &Dialect,
     limit: usize,
     screen: &Screen,
 ) -> Result<Minimized, RunFault>
@@ -65,10 +78,162 @@ pub(crate) fn minimize_shown<C: Clock, R: Source, W: Sink>(
     requires writes { W.failures writer.old < 2 ^ 64 - 1 }
 {
     if !screen.is_terminal() {
-        return minimize_history(alloc, reader, writer, limit, &mut Untold);
+        return minimize_history(alloc, reader, writer, dialect, limit, &mut Untold);
     }
     let mut line = Line::new(clock, screen);
-    let outcome = minimize_history(alloc, reader, writer, limit, &mut line);
+    let outcome = minimize_history(alloc, reader, writer, dialect, limit, &mut line);
     screen.erase();
     outcome
+}
+
+/// The table of which a text is read; or the status where it is none, whose message after this name is written.
+fn table_in<E: Write>(
+    alloc: Global,
+    name: &str,
+    text: &[u8],
+    errors: &mut E,
+) -> Result<Dialect, u8> {
+    match read_dialect(alloc, text) {
+        Ok(dialect) => Ok(dialect),
+        Err(fault) => Err(report_table(errors, name, fault)),
+    }
+}
+
+/// The table in a file.
+fn table_at<T: Files, E: Write>(
+    rt: &T,
+    alloc: Global,
+    file: &str,
+    errors: &mut E,
+) -> Result<Dialect, u8> {
+    let opened = match File::open(rt, file) {
+        Ok(opened) => opened,
+        Err(error) => return Err(report_unopened(errors, file, &error)),
+    };
+    let mut source = Device::new(opened);
+    match whole_text(alloc, &mut source) {
+        Ok(text) => table_in(alloc, file, &text, errors),
+        Err(fault) => Err(report_file(errors, file, fault)),
+    }
+}
+
+/// The table of a known tree, or else the one in a file of this name; without a name that of this tree.
+fn dialect_of<T: Files, E: Write>(
+    rt: &T,
+    alloc: Global,
+    name: Option<&str>,
+    errors: &mut E,
+) -> Result<Dialect, u8> {
+    let Some(name) = name else {
+        return Ok(Dialect::new(alloc));
+    };
+    match known_table(name) {
+        Some(text) => table_in(alloc, name, text.as_bytes(), errors),
+        None => table_at(rt, alloc, name, errors),
+    }
+}
+
+/// Writes a history to a file of its own.
+fn write_failing<T: Files>(
+    rt: &T,
+    alloc: Global,
+    folder: &str,
+    failing: &Failing,
+) -> Result<(), io::Error> {
+    let number = failing.number;
+    let path = format!(in alloc; "{folder}/{number}.history")?;
+    let mut file = File::create(rt, path.as_str())?;
+    file.write_all(failing.text.as_slice())
+}
+
+/// Writes each history that is not lawful to a file of its own, and answers the status if one is not written.
+fn write_each<T: Files, E: Write>(
+    rt: &T,
+    alloc: Global,
+    folder: &str,
+    histories: &[Failing],
+    errors: &mut E,
+) -> Result<(), u8> {
+    for failing in histories {
+        if let Err(error) = write_failing(rt, alloc, folder, failing) {
+            return Err(report_unwritten(errors, folder, &error));
+        }
+    }
+    Ok(())
+}
+
+/// Linearizes histories one after the other, and keeps those that are not lawful if a directory for them is named.
+fn linearize_each<T: Clock + Files, R: Source, W: Sink, E: Write>(
+    rt: &T,
+    alloc: Global,
+    reader: &mut Kept<R>,
+    writer: &mut W,
+    dialect: &Dialect,
+    limit: usize,
+    folder: Option<&str>,
+    errors: &mut E,
+    screen: &Screen,
+) -> u8
+    requires reads { R.failures reader.old.inner < 2 ^ 64 - 1 }
+    requires writes { W.failures writer.old < 2 ^ 64 - 1 }
+{
+    let Some(folder) = folder else {
+        let outcome = many_shown(rt, alloc, reader, writer, dialect, limit, false, screen);
+        return report_many(errors, &reader.seen, outcome);
+    };
+    if let Err(error) = create_dir_all(rt, folder) {
+        return report_unwritten(errors, folder, &error);
+    }
+    let outcome = many_shown(rt, alloc, reader, writer, dialect, limit, true, screen);
+    if let Ok(told) = &outcome {
+        if let Err(status) = write_each(rt, alloc, folder, &told.notes.kept, errors) {
+            return status;
+        }
+    }
+    report_many(errors, &reader.seen, outcome)
+}
+
+/// Does what is asked of histories, and answers the exit status.
+pub(crate) fn linearize<T: Clock + Files, R: Source, W: Sink, E: Write>(
+    rt: &T,
+    alloc: Global,
+    histories: Asked,
+    limit: usize,
+    recorded: Recorded<'_>,
+    reader: &mut Kept<R>,
+    writer: &mut W,
+    errors: &mut E,
+    screen: &Screen,
+) -> u8
+    requires reads { R.failures reader.old.inner < 2 ^ 64 - 1 }
+    requires writes { W.failures writer.old < 2 ^ 64 - 1 }
+{
+    let dialect = match dialect_of(rt, alloc, recorded.dialect, errors) {
+        Ok(dialect) => dialect,
+        Err(status) => return status,
+    };
+    match histories {
+        Asked::Many => linearize_each(
+            rt,
+            alloc,
+            reader,
+            writer,
+            &dialect,
+            limit,
+            recorded.failing,
+            errors,
+            screen,
+        ),
+        Asked::Core => {
+            let outcome = minimize_shown(rt, alloc, reader, writer, &dialect, limit, screen);
+            report_minimized(errors, &reader.seen, outcome)
+        }
+        Asked::Whole | Asked::Front => {
+            let front = histories == Asked::Front;
+            let outcome = linearize_shown(
+                rt, alloc, reader, writer, &dialect, limit, front, screen,
+            );
+            report_linearize(errors, &reader.seen, outcome)
+        }
+    }
 }

@@ -1,11 +1,11 @@
-//! The program `atomfs`. Each command reads the file that is named behind it, or standard input. `atomfs run` runs a script, from the
-//! tree in another file if one is named, `atomfs seeds` runs it by drawn schedules, `atomfs outcomes` counts how these end, `atomfs
-//! find` searches them, `atomfs shrink` leaves of it what its run needs, `atomfs threads` runs its threads on real ones, `atomfs check`
-//! reads a journal, `atomfs tree` a journal or a script, and `atomfs linearize` a history; each writes what came of it. `atomfs
+//! The program `atomfs`. Each command reads the file that is named after it, or standard input, and writes what came of it. `atomfs run`
+//! runs a script, from the tree in another file if one is named. `atomfs seeds` runs it with drawn schedules, `atomfs outcomes` counts how
+//! these end, and `atomfs find` searches them. `atomfs shrink` leaves of a script only what its run needs, and `atomfs threads` runs its
+//! threads on real ones. `atomfs check` reads a journal, `atomfs tree` a journal or a script, and `atomfs linearize` a history. `atomfs
 //! explain` writes what the words of a message mean.
 //!
 //! `fs_arguments` reads the command line, and `fs_command` has the exit statuses. Each part is proved to mean what its clauses say. The
-//! program from its arguments to its status, and the words of the messages, are tested.
+//! program as a whole, from its arguments to its status, is tested, and so are the words of its messages.
 #![tactic(auto)]
 
 ghost use Rattle.std.specs.Prelude.{◌-◌, ◌<◌, ◌≤◌, ◌^◌};
@@ -15,20 +15,22 @@ ghost use Rattle.fs_find.specs.declared.finding.TheConstants.{SEARCH_LIMIT};
 
 mod drawing;
 mod linearizing;
+mod terminals;
 
 use crate::drawing::{draw, refused_terminal};
-use crate::linearizing::{linearize_shown, many_shown, minimize_shown};
-use fs_arguments::{Asserted, Format, Histories, Invocation, Subcommand, parse};
+use crate::linearizing::linearize;
+use crate::terminals::{Terminals, has_no_color, is_in_colours, layout_of};
+use fs_arguments::{Asserted, Format, Invocation, Subcommand, parse};
+use fs_colours::Painting;
 use fs_command::{
     Erasing, Input, Kept, Line, Screen, SharedLine, report, report_asserted, report_check,
-    report_draw, report_fault, report_file, report_find, report_from, report_linearize,
-    report_many, report_minimized, report_schedule, report_shrink, report_trace, report_tree,
-    report_unopened, report_words, status_of_run, status_of_unreadable_args, status_of_usage,
-    status_of_verdict, tell_reading,
+    report_draw, report_fault, report_file, report_find, report_from, report_schedule,
+    report_shrink, report_trace, report_tree, report_unopened, report_words, status_of_run,
+    status_of_unreadable_args, status_of_usage, status_of_verdict, tell_reading,
 };
 use fs_entries::trace_input;
 use fs_explain::{Topic, explanation};
-use fs_find::{Clause, FindFault, find_seed, read_what};
+use fs_find::{Clauses, FindFault, find_seed, read_what};
 use fs_litmus::{Assertion, assert_outcomes, read_assertion};
 use fs_objects::{check_object, find_object, seed_objects};
 use fs_outcomes::{Form, add_outcomes, run_outcomes};
@@ -41,7 +43,7 @@ use fs_share::Open;
 use fs_shrink::shrink_script;
 use fs_start::{StartFault, run_from, whole_text};
 use fs_threads::{ThreadsFault, Watch, run_threads};
-use fs_trace::{ScheduleFault, schedule_script};
+use fs_trace::{ScheduleFault, schedule_script, trace_objects};
 use std::alloc::Global;
 use std::convert::AsStr;
 use std::fs::File;
@@ -82,6 +84,23 @@ fn run_at<R: Source, W: Sink, P: Witness>(
     requires writes { W.failures writer.old < 2 ^ 64 - 1 }
 {
     match run_from(alloc, tree, reader, writer, schedule, progress) {
+        Ok(end) => Ok(status_of_run(&end)),
+        Err(fault) => Err(fault),
+    }
+}
+
+/// Writes what each event of a script's run did, as objects, and answers the status.
+fn events<R: Source, W: Sink>(
+    alloc: Global,
+    reader: &mut R,
+    writer: &mut W,
+    schedule: Schedule,
+    every: bool,
+) -> Result<u8, RunFault>
+    requires reads { R.failures reader.old < 2 ^ 64 - 1 }
+    requires writes { W.failures writer.old < 2 ^ 64 - 1 }
+{
+    match trace_objects(alloc, reader, writer, schedule, every) {
         Ok(end) => Ok(status_of_run(&end)),
         Err(fault) => Err(fault),
     }
@@ -178,7 +197,7 @@ fn explain<W: Sink>(
     Ok(0)
 }
 
-/// Runs a script, and tells on a terminal how far that is.
+/// Runs a script, and shows on a terminal how far that is.
 fn run_shown<C: Clock, R: Source, W: Sink>(
     clock: &C,
     alloc: Global,
@@ -199,7 +218,7 @@ fn run_shown<C: Clock, R: Source, W: Sink>(
     outcome
 }
 
-/// Runs a script from the tree that a text has, and tells on a terminal how far that is.
+/// Runs a script from the tree that a text has, and shows on a terminal how far that is.
 fn run_at_shown<C: Clock, R: Source, W: Sink>(
     clock: &C,
     alloc: Global,
@@ -248,7 +267,7 @@ fn run_at_file<T: Clock + Files, R: Source, W: Sink, E: Write>(
     report_from(errors, &reader.seen, file, &source.seen, outcome)
 }
 
-/// Makes drawn runs of a script, and tells on a terminal how far they are.
+/// Makes drawn runs of a script, and shows on a terminal how far they are.
 fn seeds_shown<C: Clock, R: Source, W: Sink>(
     clock: &C,
     alloc: Global,
@@ -292,7 +311,7 @@ fn outcomes<R: Source, W: Sink, P: Witness>(
     }
 }
 
-/// The same, and tells on a terminal how far the runs are.
+/// The same, and shows on a terminal how far the runs are.
 fn outcomes_shown<C: Clock, R: Source, W: Sink>(
     clock: &C,
     alloc: Global,
@@ -334,7 +353,8 @@ fn assertions_of<'a, E: Write>(
     Ok(asserts)
 }
 
-/// Counts the ends of drawn runs of a script and decides what is asserted of these, and tells on a terminal how far the runs are.
+/// Counts the ends of drawn runs of a script and decides what is asserted of these, and shows on a terminal how far the
+/// runs are.
 fn asserts_shown<C: Clock, R: Source, W: Sink>(
     clock: &C,
     alloc: Global,
@@ -422,7 +442,7 @@ fn find_as<R: Source, W: Sink, P: Witness>(
     alloc: Global,
     reader: &mut R,
     writer: &mut W,
-    what: &[Clause],
+    what: &[Clauses],
     numbers: (u64, u64),
     format: Format,
     progress: &mut P,
@@ -439,13 +459,13 @@ fn find_as<R: Source, W: Sink, P: Witness>(
     }
 }
 
-/// Searches drawn runs of a script, and tells on a terminal how far they are.
+/// Searches drawn runs of a script, and shows on a terminal how far they are.
 fn find_shown<C: Clock, R: Source, W: Sink>(
     clock: &C,
     alloc: Global,
     reader: &mut R,
     writer: &mut W,
-    what: &[Clause],
+    what: &[Clauses],
     numbers: (u64, u64),
     format: Format,
     screen: &Screen,
@@ -517,7 +537,7 @@ fn shrink<R: Source, W: Sink, E: Write>(
     report_shrink(errors, &reader.seen, outcome)
 }
 
-/// Runs the threads of a script on real ones, and tells on a terminal how far they are.
+/// Runs the threads of a script on real ones, and shows on a terminal how far they are.
 fn threads_shown<T: Threads + Wait + Clock + Sync, R: Source, W: Sink>(
     rt: &T,
     alloc: Global,
@@ -538,8 +558,8 @@ fn threads_shown<T: Threads + Wait + Clock + Sync, R: Source, W: Sink>(
     outcome
 }
 
-/// Does what a subcommand asks for, and what is asserted of its runs, from a reader to a writer, and answers the exit status. The message of a fault goes
-/// to `errors`. Where these are shown on a terminal, that is told how far a long command is.
+/// Does what a subcommand asks for, and what is asserted of its runs, from a reader to a writer, and answers the exit
+/// status. The message of a fault goes to `errors`. If these go to a terminal, it shows how far a long command is.
 fn perform<T: Threads + Wait + Clock + Files + Sync, R: Source, W: Sink, E: Write>(
     rt: &T,
     alloc: Global,
@@ -599,22 +619,17 @@ fn perform<T: Threads + Wait + Clock + Files + Sync, R: Source, W: Sink, E: Writ
             let outcome = check_object(alloc, reader, writer);
             return report_check(errors, &reader.seen, outcome);
         }
-        Subcommand::Linearize(Histories::Many, limit) => {
-            let outcome = many_shown(rt, alloc, reader, writer, *limit as usize, screen);
-            return report_many(errors, &reader.seen, outcome);
-        }
-        Subcommand::Linearize(Histories::Core, limit) => {
-            let outcome = minimize_shown(rt, alloc, reader, writer, *limit as usize, screen);
-            return report_minimized(errors, &reader.seen, outcome);
-        }
-        Subcommand::Linearize(histories, limit) => {
-            let front = *histories == Histories::Front;
+        Subcommand::Linearize(histories, limit, recorded) => {
             let limit = *limit as usize;
-            let outcome = linearize_shown(rt, alloc, reader, writer, limit, front, screen);
-            return report_linearize(errors, &reader.seen, outcome);
+            return linearize(
+                rt, alloc, *histories, limit, *recorded, reader, writer, errors, screen,
+            );
         }
         Subcommand::Explain(first, second) => explain(alloc, writer, *first, *second),
-        Subcommand::Trace(order, every) => {
+        Subcommand::Trace(order, every, Format::Json) => {
+            events(alloc, reader, writer, *order, *every)
+        }
+        Subcommand::Trace(order, every, Format::Text) => {
             let outcome = trace_input(alloc, reader, writer, *order, *every);
             return report_trace(errors, &reader.seen, outcome);
         }
@@ -639,8 +654,8 @@ fn reads(command: &Subcommand<'_>) -> bool {
     !matches!(command, Subcommand::Explain(_, _))
 }
 
-/// What a command reads: the file that is named, or what the program was given. Where that is a terminal and no file is named, that is
-/// told; where the file is not opened, the answer is the status.
+/// What a command reads: the file that is named, or what the program was given. If that is a terminal and no file is
+/// named, a message says so. If the file is not opened, the answer is the status.
 fn opened<T: Files, R: Read + Drop, E: Write>(
     rt: &T,
     asked: &Invocation<'_>,
@@ -661,13 +676,6 @@ fn opened<T: Files, R: Read + Drop, E: Write>(
             Ok(Input::Given(input))
         }
     }
-}
-
-/// Which of its streams are terminals.
-#[derive(Clone, Copy)]
-struct Terminals {
-    input: bool,
-    output: bool,
 }
 
 /// The exit status of the program, from its arguments on. The first of them is its name.
@@ -698,7 +706,10 @@ where
         Err(status) => return status,
     };
     let mut reader = Kept::new(alloc, Device::new(input));
-    let mut writer = Erasing::new(Device::new(output), screen);
+    let layout = layout_of(&asked, terminals);
+    let is_painted = is_in_colours(&asked, terminals);
+    let painting = Painting::new(alloc, Device::new(output), layout, is_painted);
+    let mut writer = Erasing::new(painting, screen);
     perform(
         rt,
         alloc,
@@ -720,6 +731,7 @@ fn exit_status<T: Threads + Wait + Clock + Files + Sync>(rt: &HostRuntime, threa
     let terminals = Terminals {
         input: input.is_terminal(),
         output: output.is_terminal(),
+        no_color: has_no_color(rt),
     };
     let args = match std::env::args(rt) {
         Ok(args) => args,

@@ -18,7 +18,7 @@ use Rattle.fs_machine.specs.States.{empty, fresh}
 use Rattle.fs_machine.specs.declared.answers.Stepped.TheVariants.{Idle}
 use Rattle.fs_core.specs.CoreValues.{CoreValue, state_of, IsAtRest}
 use Rattle.fs_words.specs.declared.fault.ScriptFault.{ScriptFault}
-use Rattle.fs_embed.specs.Calls.{BeginsCall, RunsCall, WaitsCall, IsNotBegun, GoesOnAs, code_of}
+use Rattle.fs_embed.specs.Calls.{BeginsCall, RunsCall, WaitsCall, IsNotBegun, GoesOnAs, LeavesFewer, LeavesNone, code_of}
 use Rattle.fs_embed.specs.Keeping.{After}
 use Rattle.fs_embed.specs.Requests.{Asked}
 use Rattle.fs_embed.specs.declared.calls.NotBegun.{NotBegun}
@@ -98,6 +98,10 @@ pub record IsBegun (most : Option ℕ) (given : Asked) (seat status number : ℕ
 -- a step of some seat by which its call went on, told by two numbers; or no call is under way, and nothing changed, nor what stood in the place of the seat
 abbrev pub StepsAny : CoreValue → ℕ → ℕ → ℕ → ℕ → CoreValue → Type 0
 StepsAny old before seat code about new = GoesOnAs old seat code about new ⊎ ((code ≡ code_of Idle) × (about ≡ 0) × (seat ≡ before) × IsAtRest old × (state_of new ≡ state_of old))
+
+-- fewer steps are left than before; or it was no step, and none is left
+abbrev pub ComesCloser : CoreValue → ℕ → CoreValue → Type 0
+ComesCloser old code new = LeavesFewer old new ⊎ ((code ≡ code_of Idle) × LeavesNone new)
 
 -- what came of a call behind a handle: its reply, or the status that says why there is none
 abbrev pub Comes : Option ℕ → Asked → ℕ → Result Reply ℕ → ℕ → Option CoreValue → Option CoreValue → Type 0

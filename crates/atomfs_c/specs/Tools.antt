@@ -1,5 +1,5 @@
 -- What exports say of tools over texts.
-use Rattle.std.specs.Prelude.{◌≡◌, ◌<◌, ◌⊎◌, ℕ, List, Option, Some, None}
+use Rattle.std.specs.Prelude.{◌≡◌, ◌<◌, ◌⊎◌, ℕ, List, [], Option, Some, None}
 use Rattle.fs_script.specs.Script.{script_of}
 use Rattle.fs_sched.specs.declared.schedule.Schedule.{Schedule}
 use Rattle.fs_sched.specs.declared.seeding.TheConstants.{SEED_LIMIT, RUN_LIMIT}
@@ -43,4 +43,4 @@ IsNoSearch limit form = (limit ≡ 0) ⊎ (CONFIGURATION_LIMIT < limit) ⊎ (WOR
 
 -- a status and a line tell why nothing is found of a history
 abbrev pub TellsNothingFound : ℕ → ℕ → List ℕ → ℕ → ℕ → Type 0
-TellsNothingFound limit form history status line = (IsNoSearch limit form × (status ≡ BAD_CHOICE)) ⊎ TellsFault (history_of history) status line
+TellsNothingFound limit form history status line = (IsNoSearch limit form × (status ≡ BAD_CHOICE)) ⊎ TellsFault (history_of [] history) status line

@@ -1,11 +1,11 @@
-//! The exports that begin calls and step them, and what runs a call behind a handle.
+//! The exports that begin calls and step them, and what runs a call on a handle.
 
 ghost use Rattle.std.specs.Prelude.{◌≡◌, ◌≢◌, ◌≤◌, ◌<◌, ◌⊎◌, IfErr, length};
 ghost use Rattle.fs_embed.specs.Requests.{asked, call_in};
 ghost use Rattle.fs_embed.specs.Numbered.{asked_by};
 ghost use Rattle.fs_embed.specs.Calls.{StepsAs};
 ghost use Rattle.fs_embed.specs.Statuses.{IsRefusal, IsOfBegin};
-ghost use Rattle.atomfs_c.specs.Exports.{Goes, ToldIfClosed, IsLawful, IsSpelled, IsBegun, StepsAny, Comes, to_keep};
+ghost use Rattle.atomfs_c.specs.Exports.{Goes, ToldIfClosed, IsLawful, IsSpelled, IsBegun, StepsAny, ComesCloser, Comes, to_keep};
 
 use crate::handles::{Handle, put, take};
 use fs_calls::Reply;
@@ -16,7 +16,7 @@ use fs_embed::{Request, begin_kept, run_kept, step_any, step_seat};
 use fs_names::SeatNo;
 use std::alloc::Global;
 
-/// Begins the call that is asked for behind a handle, and tells its number.
+/// Begins the call that is asked for on a handle, and reports its number.
 fn begin(alloc: Global, handle: &mut Handle, seat: u64, request: Request, number: &mut u64) -> u8
     ensures begun { IsBegun (to_keep handle.old.most) (asked request.entry) seat result number.new handle.old.held.core handle.new.held.core }
     ensures only { IsOfBegin result }
@@ -40,7 +40,7 @@ fn begin(alloc: Global, handle: &mut Handle, seat: u64, request: Request, number
     }
 }
 
-/// Begins the call that a line spells on a seat, and tells its number.
+/// Begins the call that a line spells on a seat, and reports its number.
 #[unsafe(no_mangle)]
 pub extern "C" fn atomfs_begin(
     alloc: Global,
@@ -59,7 +59,7 @@ pub extern "C" fn atomfs_begin(
     begin(alloc, handle, seat, Request::Line(line), number)
 }
 
-/// Begins the call that a number and what may stand with it ask for on a seat, and tells its number.
+/// Begins the call that is asked for by a number and what may come with it on a seat, and reports its number.
 #[unsafe(no_mangle)]
 pub extern "C" fn atomfs_begin_call(
     alloc: Global,
@@ -84,7 +84,7 @@ pub extern "C" fn atomfs_begin_call(
     begin(alloc, handle, seat, request, number)
 }
 
-/// Does one step of the call on a seat, and tells which answer it was and what it speaks of.
+/// Does one step of the call on a seat, and reports which answer it was and which call or node it is about.
 #[unsafe(no_mangle)]
 pub extern "C" fn atomfs_step(
     alloc: Global,
@@ -117,8 +117,9 @@ pub extern "C" fn atomfs_step(
     }
 }
 
-/// Does one step of a call that does not wait, whichever it is, and tells its seat, which answer it was and what it speaks of.
-/// Where no call is under way it tells an idle step, and no seat. So calls never wait for each other without end.
+/// Does one step of a call that does not wait, whichever it is. It reports the seat, which answer it was, and which
+/// call or node it is about. If no call is pending, it reports an idle step, and no seat. So calls never wait for each
+/// other without end. Each step leaves fewer, and a begin adds two for each name of its paths and twelve, so a loop ends.
 #[unsafe(no_mangle)]
 pub extern "C" fn atomfs_step_any(
     alloc: Global,
@@ -130,6 +131,7 @@ pub extern "C" fn atomfs_step_any(
     ensures only { (result ≡ OK) ⊎ (result ≡ CLOSED) }
     ensures untouched { result ≢ OK → (seat.new ≡ seat.old) × (did.new ≡ did.old) × (about.new ≡ about.old) }
     ensures never_stuck { result ≡ OK → Goes (λ old new. StepsAny old seat.old seat.new did.new about.new new) handle.old.held.core handle.new.held.core }
+    ensures ends { result ≡ OK → Goes (λ old new. ComesCloser old did.new new) handle.old.held.core handle.new.held.core }
     ensures closed { ToldIfClosed result handle.old.held.core handle.new.held.core }
     ensures lawful { IsLawful handle.new.held.core }
     ensures spelled { IsSpelled handle.new.held.core }
@@ -154,8 +156,8 @@ pub extern "C" fn atomfs_step_any(
     OK
 }
 
-/// Runs the call that is asked for behind a handle, from its begin to its return, and tells its number. The error is the
-/// number of the reason why it did not return. Where it waits for a call of another seat it stays under way.
+/// Runs the call that is asked for on a handle, from its begin to its return, and reports its number. The error is the
+/// number of the reason why it did not return. If it waits for a call of another seat, it stays pending.
 pub fn run(
     alloc: Global,
     handle: &mut Handle,

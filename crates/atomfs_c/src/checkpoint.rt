@@ -1,4 +1,4 @@
-//! The exports by which a journal goes out in pieces: what stands before its entries, and the checkpoint.
+//! The exports that hand a journal out in pieces: what comes before its entries, and the checkpoint.
 
 ghost use Rattle.std.specs.Prelude.{◌≡◌, ◌≢◌, ◌<◌, ◌⊎◌, IsSomeAnd};
 ghost use Rattle.fs_core.specs.Checkpoints.{IsWhyNot};
@@ -14,7 +14,7 @@ use fs_embed::told::tell;
 use fs_embed::{hand_out, opening_text};
 use std::alloc::Global;
 
-/// Tells what stands before the first entry of the journal: its header, and the tree at which it starts where that is more
+/// Writes what comes before the first entry of the journal: its header, and the tree at which it starts if that is more
 /// than the root.
 #[unsafe(no_mangle)]
 pub extern "C" fn atomfs_opening(
@@ -40,7 +40,7 @@ pub extern "C" fn atomfs_opening(
     }
 }
 
-/// Hands the whole journal out as a text, begins it again at the tree as it stands, and tells how many calls it had.
+/// Hands the whole journal out as a text, begins it again at the tree as it is, and reports how many calls it had.
 #[unsafe(no_mangle)]
 pub extern "C" fn atomfs_checkpoint(
     alloc: Global,

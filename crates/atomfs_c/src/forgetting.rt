@@ -13,7 +13,8 @@ use fs_embed::status::{CLOSED, NO_MEMORY, OK, UNDER_WAY};
 use fs_embed::told::tell_verdict;
 use std::alloc::Global;
 
-/// Tells the verdict on the entries as they stand: the place of the first that does not fit and what is wrong with it, or 0 and 0.
+/// Reports the verdict on the entries as they are: the place of the first that does not fit and what is wrong with it,
+/// or 0 and 0.
 #[unsafe(no_mangle)]
 pub extern "C" fn atomfs_verdict(
     alloc: Global,
@@ -42,7 +43,7 @@ pub extern "C" fn atomfs_verdict(
     }
 }
 
-/// Begins the journal again at the tree as it stands, and tells how many calls it has forgotten.
+/// Begins the journal again at the tree as it is, and reports how many calls it has forgotten.
 #[unsafe(no_mangle)]
 pub extern "C" fn atomfs_forget(alloc: Global, handle: &mut Handle, number: &mut u64) -> u8
     ensures only { (result ≡ OK) ⊎ (result ≡ CLOSED) ⊎ (result ≡ UNDER_WAY) ⊎ (result ≡ NO_MEMORY) }
@@ -63,7 +64,8 @@ pub extern "C" fn atomfs_forget(alloc: Global, handle: &mut Handle, number: &mut
     status
 }
 
-/// From the next call on, where more than so many calls stand and none is under way, they are forgotten before one begins.
+/// From the next call on, if the journal has more than so many calls and none is pending, they are forgotten before a
+/// call begins.
 #[unsafe(no_mangle)]
 pub extern "C" fn atomfs_keep(alloc: Global, handle: &mut Handle, most: u32) -> u8
     ensures only { (result ≡ OK) ⊎ (result ≡ CLOSED) }

@@ -53,7 +53,7 @@ pub fn take(alloc: Global, handle: &mut Handle) -> Option<Box<Core>>
     Some(held.into_parts().into_box())
 }
 
-/// Puts a core behind a handle, and tells what every core keeps.
+/// Puts a core into a handle, and proves what every core keeps.
 pub fn put(handle: &mut Handle, core: Box<Core>)
     ensures core { handle.new.held.core ≡ Some core.value }
     ensures lawful { IsLawful handle.new.held.core }
@@ -170,7 +170,7 @@ pub extern "C" fn atomfs_close(alloc: Global, handle: &mut Handle) -> u8
     }
 }
 
-/// Adds a seat, and tells its number: the first is 0, each next one more.
+/// Adds a seat, and reports its number: the first is 0, and each next one is one more.
 #[unsafe(no_mangle)]
 pub extern "C" fn atomfs_seat(alloc: Global, handle: &mut Handle, seat: &mut u64) -> u8
     ensures only { (result ≡ OK) ⊎ (result ≡ CLOSED) ⊎ (result ≡ NO_MEMORY) }

@@ -1,4 +1,4 @@
-//! The boxed core behind a handle.
+//! The boxed core of a handle.
 
 ghost use Rattle.std.specs.Prelude.{◌≡◌, Option, Some, None, IsSome};
 ghost use Rattle.fs_core.specs.CoreValues.{CoreValue};

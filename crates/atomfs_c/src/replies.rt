@@ -1,4 +1,4 @@
-//! The exports that tell the reply of a call that has returned.
+//! The exports that write the reply of a call that has returned.
 
 ghost use Rattle.std.specs.Prelude.{◌≡◌, ◌≢◌, ◌⊎◌};
 ghost use Rattle.fs_embed.specs.Statuses.{IsOfReply};
@@ -13,7 +13,7 @@ use fs_embed::status::{CLOSED, NO_MEMORY, OK};
 use fs_embed::told::Stat;
 use std::alloc::Global;
 
-/// Tells the text of the reply of a call.
+/// Writes the text of the reply of a call.
 #[unsafe(no_mangle)]
 pub extern "C" fn atomfs_reply(
     alloc: Global,
@@ -37,7 +37,7 @@ pub extern "C" fn atomfs_reply(
     status
 }
 
-/// Tells that a call is done which answers no more.
+/// The status of a call that replies only that it is done, or that it failed.
 #[unsafe(no_mangle)]
 pub extern "C" fn atomfs_reply_done(alloc: Global, handle: &mut Handle, number: u64) -> u8
     ensures replied { IsReplied handle.old.held.core (λ reply. result ≡ done_status reply) number result }
@@ -54,7 +54,7 @@ pub extern "C" fn atomfs_reply_done(alloc: Global, handle: &mut Handle, number: 
     status
 }
 
-/// Tells the reply of a stat.
+/// Writes the reply of a stat.
 #[unsafe(no_mangle)]
 pub extern "C" fn atomfs_reply_stat(
     alloc: Global,
@@ -77,7 +77,7 @@ pub extern "C" fn atomfs_reply_stat(
     status
 }
 
-/// Tells the names of a readdir or a list that come behind one, as many as there is room for.
+/// Writes the names of a readdir or a list that come after one, as many as there is room for.
 #[unsafe(no_mangle)]
 pub extern "C" fn atomfs_reply_names(
     alloc: Global,
@@ -102,7 +102,7 @@ pub extern "C" fn atomfs_reply_names(
     status
 }
 
-/// Tells the bytes of a read.
+/// Writes the bytes of a read.
 #[unsafe(no_mangle)]
 pub extern "C" fn atomfs_reply_bytes(
     alloc: Global,
@@ -126,7 +126,7 @@ pub extern "C" fn atomfs_reply_bytes(
     status
 }
 
-/// Tells how many bytes a write wrote.
+/// Writes how many bytes a write wrote.
 #[unsafe(no_mangle)]
 pub extern "C" fn atomfs_reply_wrote(
     alloc: Global,

@@ -15,8 +15,9 @@ use fs_embed::told::{tell, tell_fault};
 use fs_sched::{Schedule, check_bytes, run_bytes};
 use std::alloc::Global;
 
-/// Runs a script by its own schedule, and tells its run text, as `atomfs run` prints it. Where the script has a fault its
-/// line is told in the place of a length, and where it asks for a checkpoint too early the number of a call under way.
+/// Runs a script with its own schedule, and writes its run text, as `atomfs run` prints it. If the script has a fault,
+/// the fault's line is reported in place of a length. If it asks for a checkpoint too early, that is the number of a
+/// pending call.
 #[unsafe(no_mangle)]
 pub extern "C" fn atomfs_run(alloc: Global, script: &[u8], out: &mut [u8], count: &mut usize) -> u8
     ensures ran { result < UNTOLD → (end : RunEnd) × (text : List ℕ) × AreOfTheRun Schedule.Given script.now end text × Tells result text count.new out.old out.new }
@@ -30,8 +31,8 @@ pub extern "C" fn atomfs_run(alloc: Global, script: &[u8], out: &mut [u8], count
     }
 }
 
-/// Checks a journal, and tells the line of the verdict, as `atomfs check` prints it. Where the journal's text has a fault
-/// its line is told in the place of a length.
+/// Checks a journal, and writes the line of the verdict, as `atomfs check` prints it. If the journal's text has a
+/// fault, the fault's line is reported in place of a length.
 #[unsafe(no_mangle)]
 pub extern "C" fn atomfs_check(
     alloc: Global,
@@ -50,7 +51,7 @@ pub extern "C" fn atomfs_check(
     }
 }
 
-/// Checks bytes as a path by the limits of a version, 1, 2 or 3, and tells the first check that they fail.
+/// Checks bytes as a path under the limits of a version, 1, 2 or 3, and reports the first check that they fail.
 #[unsafe(no_mangle)]
 pub extern "C" fn atomfs_check_path(alloc: Global, path: &[u8], version: u8) -> u8
     ensures { TellsPath (limits_of version) path.now result }

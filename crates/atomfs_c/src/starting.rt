@@ -1,4 +1,4 @@
-//! The exports that open a handle at a tree: one that is read from a text, or the one at which another handle stands.
+//! The exports that open a handle at a tree: one that is read from a text, or the one that another handle has now.
 
 ghost use Rattle.std.specs.Prelude.{◌≡◌, ◌≢◌, ◌<◌, ◌≤◌, ◌⊎◌, ◌↔◌, None, Some, Ok, Err, IsSome, IsSomeAnd, length};
 ghost use Rattle.fs_names.specs.Limits.{node_limit};
@@ -42,7 +42,8 @@ fn open_at(alloc: Global, handle: &mut Handle, start: SeqTree, limit: usize) -> 
     }
 }
 
-/// Opens a closed handle, for at most `limit` nodes, at the tree of a text or the start of a journal, by its limits; tells the line of a fault.
+/// Opens a closed handle, for at most `limit` nodes, at the tree of a text or the start of a journal, with its limits.
+/// It reports the line of a fault.
 #[unsafe(no_mangle)]
 pub extern "C" fn atomfs_open_from(
     alloc: Global,
@@ -73,7 +74,8 @@ pub extern "C" fn atomfs_open_from(
     }
 }
 
-/// Opens a closed handle at the tree that stands behind another one, by its limits; that one stays, and may have no call under way.
+/// Opens a closed handle at the tree of another one, with its limits. The other handle stays, and may have no pending
+/// call.
 #[unsafe(no_mangle)]
 #[tactic(auto, using(fs_names::proofs::LimitLemmas::nodes_have_room))]
 pub extern "C" fn atomfs_open_at(

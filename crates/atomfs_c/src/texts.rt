@@ -1,4 +1,4 @@
-//! The exports that tell texts of a core: the journal and the tree.
+//! The exports that write texts of a core: the journal and the tree.
 
 ghost use Rattle.std.specs.Prelude.{◌≡◌, ◌<◌, ℕ, List, IsSomeAnd, IfOk, length};
 ghost use Rattle.fs_nodes.specs.Stores.{graph_of};
@@ -13,7 +13,7 @@ use fs_embed::told::tell;
 use fs_embed::{journal_text, tree_text};
 use std::alloc::{AllocError, Global};
 
-/// Tells the journal's lines of the entries from one on, counted from 0, and how many entries there are. The header line
+/// Writes the journal's lines of the entries from one on, counted from 0, and how many entries there are. The header line
 /// is not among them.
 #[unsafe(no_mangle)]
 pub extern "C" fn atomfs_journal(
@@ -49,7 +49,7 @@ fn text_of_tree(alloc: Global, core: &Core) -> Result<Vec<u8>, AllocError>
     tree_text(alloc, core.store())
 }
 
-/// Tells the text of the tree that the nodes spell.
+/// Writes the text of the tree that the nodes spell.
 #[unsafe(no_mangle)]
 pub extern "C" fn atomfs_tree(
     alloc: Global,

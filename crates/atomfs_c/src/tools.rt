@@ -1,6 +1,7 @@
-//! The exports of tools over texts, which take no handle. Where a text has a fault its line is told in the place of a length.
+//! The exports of tools over texts, which take no handle. If a text has a fault, its line is reported in place of a
+//! length.
 
-ghost use Rattle.std.specs.Prelude.{◌≡◌, ◌≢◌, ◌<◌, ◌⊎◌, ℕ, Bool, List, IsSomeAnd};
+ghost use Rattle.std.specs.Prelude.{◌≡◌, ◌≢◌, ◌<◌, ◌⊎◌, ℕ, Bool, List, None, IsSomeAnd};
 ghost use Rattle.std.specs.Str.{IsUtf8};
 ghost use Rattle.fs_explain.specs.Topics.{Explains, word_of};
 ghost use Rattle.fs_explain.specs.declared.topic.Topic.{Topic};
@@ -8,6 +9,7 @@ ghost use Rattle.fs_sched.specs.Seeds.{AreRunsOf};
 ghost use Rattle.fs_sched.specs.declared.running.RunEnd.{RunEnd};
 ghost use Rattle.fs_trace.specs.Traces.{IsScheduleOf, IsTraceOf};
 ghost use Rattle.fs_draw.specs.Pictures.{IsPictureOf};
+ghost use Rattle.fs_page.specs.Pages.{IsPageOf};
 ghost use Rattle.fs_embed.specs.Numbered.{is_set, schedule_of};
 ghost use Rattle.fs_embed.specs.Statuses.{IsRefusal};
 ghost use Rattle.fs_embed.specs.Told.{Tells};
@@ -19,13 +21,14 @@ use fs_embed::seeds_bytes;
 use fs_embed::status::{BAD_CHOICE, CLOSED, UNTOLD};
 use fs_embed::told::{tell, tell_fault};
 use fs_explain::{explanation_of, topic_in};
+use fs_page::page_bytes;
 use fs_recorded::CONFIGURATION_LIMIT;
 use fs_sched::{RUN_LIMIT, SEED_LIMIT};
 use fs_tools::{WORDS, around_of, draw_bytes, found_bytes, tell_no_picture, tell_no_schedule};
 use fs_trace::{schedule_bytes, trace_bytes};
 use std::alloc::Global;
 
-/// Runs a script, and tells its trace, as `atomfs trace` prints it: every event, or those alone that tell something new.
+/// Runs a script, and writes its trace, as `atomfs trace` prints it: every event, or only those that are news.
 #[unsafe(no_mangle)]
 pub extern "C" fn atomfs_trace(
     alloc: Global,
@@ -49,7 +52,8 @@ pub extern "C" fn atomfs_trace(
     }
 }
 
-/// Draws a script's run, or a journal, and tells the picture, as `atomfs draw` prints it: the whole, or what is around a call.
+/// Draws a script's run, or a journal, and writes the picture, as `atomfs draw` prints it: the whole, or what is around
+/// a call.
 #[unsafe(no_mangle)]
 pub extern "C" fn atomfs_draw(
     alloc: Global,
@@ -73,7 +77,31 @@ pub extern "C" fn atomfs_draw(
     }
 }
 
-/// Runs a script, and tells it with the run's events as its words, as `atomfs schedule` prints it; the line 0 where they have no room.
+/// Makes the page that plays a script's run, or a journal, in a browser, and writes it as `atomfs draw --html` prints it.
+#[unsafe(no_mangle)]
+pub extern "C" fn atomfs_page(
+    alloc: Global,
+    text: &[u8],
+    schedule: u8,
+    seed: u64,
+    out: &mut [u8],
+    count: &mut usize,
+) -> u8
+    ensures played { result < UNTOLD → IsSomeAnd (schedule_of schedule seed) (λ by. (well : Bool) × (page : List ℕ) × IsPageOf by text.now well page × Tells result page count.new out.old out.new) }
+    ensures fault { CLOSED < result → TellsNoPicture (schedule_of schedule seed) None text.now result count.new }
+    ensures only { (result < UNTOLD) ⊎ IsRefusal result }
+{
+    let Some(by) = schedule_of(schedule, seed) else {
+        return BAD_CHOICE;
+    };
+    match page_bytes(alloc, text, by) {
+        Ok(made) => tell(made.text.as_slice(), out, count),
+        Err(fault) => tell_no_picture(fault, count),
+    }
+}
+
+/// Runs a script, and writes it with the run's events as its words, as `atomfs schedule` prints it. The line is 0 if
+/// they have no room.
 #[unsafe(no_mangle)]
 pub extern "C" fn atomfs_schedule(
     alloc: Global,
@@ -96,7 +124,8 @@ pub extern "C" fn atomfs_schedule(
     }
 }
 
-/// Runs a script by schedules drawn from a number, the next one and so on, and tells the verdict on each, as `atomfs seeds` prints it.
+/// Runs a script with schedules that are drawn from a number, the next one and so on, and writes the verdict on each,
+/// as `atomfs seeds` prints it.
 #[unsafe(no_mangle)]
 pub extern "C" fn atomfs_seeds(
     alloc: Global,
@@ -119,7 +148,8 @@ pub extern "C" fn atomfs_seeds(
     }
 }
 
-/// Finds an order in which the calls of a history took effect, and tells the journal, or why there is none, as `atomfs linearize` prints it.
+/// Finds an order in which the calls of a history took effect, and writes the journal, or why there is none, as `atomfs
+/// linearize` prints it.
 #[unsafe(no_mangle)]
 pub extern "C" fn atomfs_linearize(
     alloc: Global,
@@ -146,7 +176,7 @@ pub extern "C" fn atomfs_linearize(
     }
 }
 
-/// Tells what the word of a fault means, and what to write instead, as `atomfs explain` prints it.
+/// Writes what the word of a fault means, and what to write instead, as `atomfs explain` prints it.
 #[unsafe(no_mangle)]
 pub extern "C" fn atomfs_explain(word: &[u8], out: &mut [u8], count: &mut usize) -> u8
     ensures explained { result < UNTOLD → (topic : Topic) × (text : List ℕ) × (word_of topic ≡ word.now) × Explains topic text × Tells result text count.new out.old out.new }

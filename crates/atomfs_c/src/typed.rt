@@ -1,6 +1,6 @@
 //! The exports that run calls from their begin to their return.
 //!
-//! Where a call waits for one of another seat it stays under way, and `atomfs_step` goes on with it.
+//! If a call waits for one of another seat, it stays pending, and `atomfs_step` goes on with it.
 
 ghost use Rattle.std.specs.Prelude.{◌≡◌, ◌≢◌, ◌<◌, ◌≤◌, length};
 ghost use Rattle.fs_calls.specs.declared.call.Call.TheVariants as calls;
@@ -100,7 +100,7 @@ pub extern "C" fn atomfs_rmdir(
     run_done(alloc, handle, seat, Request::Rmdir(path), number)
 }
 
-/// Moves what stands at a path to another path.
+/// Moves what is at a path to another path.
 #[unsafe(no_mangle)]
 pub extern "C" fn atomfs_rename(
     alloc: Global,
@@ -119,7 +119,7 @@ pub extern "C" fn atomfs_rename(
     run_done(alloc, handle, seat, Request::Rename(path, other), number)
 }
 
-/// Lets what stands at two paths change places.
+/// Lets what is at two paths change places.
 #[unsafe(no_mangle)]
 pub extern "C" fn atomfs_exchange(
     alloc: Global,
@@ -157,7 +157,7 @@ pub extern "C" fn atomfs_truncate(
     run_done(alloc, handle, seat, Request::Truncate(path, size), number)
 }
 
-/// Tells what stands at a path.
+/// Reports what is at a path.
 #[unsafe(no_mangle)]
 pub extern "C" fn atomfs_stat(
     alloc: Global,
@@ -180,7 +180,7 @@ pub extern "C" fn atomfs_stat(
     }
 }
 
-/// Tells all names of a directory, a byte 0 behind each.
+/// Writes all names of a directory, a byte 0 after each.
 #[unsafe(no_mangle)]
 pub extern "C" fn atomfs_readdir(
     alloc: Global,
@@ -204,8 +204,8 @@ pub extern "C" fn atomfs_readdir(
     }
 }
 
-/// Tells the names of a directory above the last name of a path, no more than so many, a byte 0 behind each. By limits without
-/// this call it does not begin.
+/// Writes the names of a directory above the last name of a path, no more than so many, a byte 0 after each. Under
+/// limits without this call it does not begin.
 #[unsafe(no_mangle)]
 pub extern "C" fn atomfs_list(
     alloc: Global,
@@ -268,7 +268,7 @@ pub extern "C" fn atomfs_read(
     }
 }
 
-/// Writes bytes into a file at an offset, and tells how many.
+/// Writes bytes into a file at an offset, and reports how many.
 #[unsafe(no_mangle)]
 pub extern "C" fn atomfs_write(
     alloc: Global,
@@ -299,7 +299,7 @@ pub extern "C" fn atomfs_write(
     }
 }
 
-/// Runs the call that a line spells, and tells its reply's text.
+/// Runs the call that a line spells, and writes its reply's text.
 #[unsafe(no_mangle)]
 pub extern "C" fn atomfs_call(
     alloc: Global,

@@ -93,7 +93,7 @@ fn calls(alloc: Global) -> Option<Vec<Call>> {
     Some(calls)
 }
 
-/// Makes these calls, those behind the first so many times. Whether each is answered.
+/// Makes these calls, those after the first so many times. Whether each is answered.
 fn are_answered<N: Named, R: Wait + Clock>(
     rt: &R,
     alloc: Global,

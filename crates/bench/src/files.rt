@@ -1,5 +1,5 @@
-//! A file in blocks, in a store alone: pieces of it are written in no order and read again, or put one behind the other. How long
-//! that takes as the file grows, and how much memory it holds, is looked at from outside.
+//! A file in blocks, in a store alone: pieces of it are written in no order and read again, or put one after the other.
+//! How long that takes as the file grows, and how much memory it holds, is looked at from outside.
 
 use anyhow::{Result, ensure};
 use fs_blocks::Spare;
@@ -15,7 +15,7 @@ const PIECE: usize = 65_536;
 /// How many such pieces a mebibyte has.
 const PIECES: usize = 16;
 
-/// How many bytes are put into each piece behind that.
+/// How many bytes are put into each later piece.
 const FEW: usize = 100;
 
 /// No file here has as many bytes.
@@ -26,7 +26,7 @@ const MOST: usize = 1 << 31;
 pub enum Filling {
     /// In pieces, in no order; each is read again, and a few bytes are put into it.
     Scattered,
-    /// In pieces of so many bytes, one behind the other.
+    /// In pieces of so many bytes, one after the other.
     Appended(usize),
     /// The same, and the file shares the bytes of each piece.
     Shared(usize),
@@ -112,7 +112,7 @@ fn change_pieces(alloc: Global, place: &mut Place, pieces: usize) -> Result<()> 
     Ok(())
 }
 
-/// Puts so many pieces of so many bytes one behind the other.
+/// Puts so many pieces of so many bytes one after the other.
 fn append(alloc: Global, place: &mut Place, piece: usize, pieces: usize) -> Result<()> {
     for number in 0..pieces {
         let bytes = vec![in alloc; (number % 256) as u8; piece]?;

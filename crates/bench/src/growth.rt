@@ -8,7 +8,7 @@ use fs_names::{Path, SeatNo};
 use fs_nodes::{NodeNo, Store};
 use std::alloc::Global;
 
-/// How many files each name of a path tells apart, from the first name on: each directory has eight entries at most.
+/// Among how many files each name of a path decides, from the first name on: each directory has eight entries at most.
 const WEIGHTS: [usize; 5] = [4096, 512, 64, 8, 1];
 
 /// More events than any call here has.

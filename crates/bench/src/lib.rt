@@ -1,9 +1,9 @@
-//! Times parts of AtomFS that neither the program nor the library for C times: the calls of a script's threads on one shared tree,
-//! and observers beside a told writer. In the gate it does each with a few calls, counts the entries that calls look at as a tree
-//! grows, which those do not tell either, and writes no times.
+//! Times the parts of AtomFS that neither the program nor the library for C times. These are the calls of a script's threads on one shared
+//! tree, and observers that read while a writer publishes its calls. In the gate it does each with a few calls and writes no times. There
+//! it also counts the entries that calls look at as a tree grows, which the program and the library do not report either.
 //!
 //! Enter at `run`, or for one part, timed, at `time_threads`, `time_observers` and `time_ended`. Only programs that are no part of the
-//! product stand on it, and it promises nothing.
+//! product use it, and it promises nothing.
 #![tactic(auto)]
 
 mod ended;

@@ -1,4 +1,4 @@
-//! Observers beside a told writer.
+//! Observers beside a writer that publishes.
 
 ghost use Rattle.std.specs.Prelude.{◌≡◌, ◌^◌};
 
@@ -33,7 +33,7 @@ fn on_named<N: Named + Send + Sync, R: Threads + Wait + Clock + Sync>(
     time
 }
 
-/// How long so many observers take for so many reads each, on a tree of its own, beside a told writer.
+/// How long so many observers take for so many reads each, on a tree of its own, beside a writer that publishes.
 fn on_tree<R: Threads + Wait + Clock + Sync>(
     rt: &R,
     alloc: Global,

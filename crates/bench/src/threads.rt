@@ -8,7 +8,7 @@ use std::sync::Wait;
 use std::thread::Threads;
 use std::time::{Clock, Duration, Instant};
 
-/// How many entries the timeline has, and how long all calls took, where the clock tells.
+/// How many entries the timeline has, and how long all calls took, if the clock says so.
 type Played = (usize, Option<Duration>);
 
 /// Plays the lists of a script on a tree of their own, by its limits.

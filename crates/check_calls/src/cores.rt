@@ -35,7 +35,7 @@ fn take_seats(core: &mut Core) -> Result<()>
     Ok(())
 }
 
-/// What every core tells its caller.
+/// What every core proves to its caller.
 pub fn tell(core: &Core) {
     core.told();
     core.told_of_helping();
@@ -105,7 +105,7 @@ fn end(alloc: Global, core: &mut Core) -> bool
     core.run(alloc, &events) == all
 }
 
-/// A call begins, and no second one on its seat. Whether the events behind that are not done.
+/// A call begins, and no second one on its seat. Whether the events after that are not done.
 fn is_refused(alloc: Global, core: &mut Core, one: Call, other: Call) -> bool
     requires { length core.old.seats ≡ 2 }
     ensures { length core.new.seats ≡ 2 }
@@ -138,7 +138,7 @@ fn ends(alloc: Global, core: &mut Core) -> bool
     core.run(alloc, &events) == all
 }
 
-/// A call is refused while another one is under way, which ends then.
+/// A call is refused while another one is pending, which ends then.
 fn refuse(alloc: Global, core: &mut Core, one: &Call, other: &Call) -> Result<()>
     requires { length core.old.seats ≡ 2 }
     ensures { length core.new.seats ≡ 2 }

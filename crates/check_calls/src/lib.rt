@@ -1,11 +1,10 @@
-//! Public calls whose answers no program and no call of the library for C shows: the order of names and how paths stand to
-//! each other (`names`); whether calls and replies are the same, and what texts are made of (`words`); where a walk and the
-//! heads of a rename stand, and a call that is cancelled (`walks`); a core, its nodes, holders, commits and parts (`cores`), and
-//! the rows at which one begins (`starts`); parts of the runners, and the fault that no run ends with (`parts`); files at both
-//! sets of limits (`limits`).
+//! Checks public calls whose answers no program and no call of the library for C shows. `names` has the order of names, and how two paths
+//! relate. `words` compares calls and replies, and looks at what texts are made of. `walks` has where a walk and the heads of a rename
+//! are, and a call that is cancelled. `cores` has a core, its nodes, holders, commits and parts, and `starts` the rows at which a core
+//! begins. `parts` has parts of the runners and the fault that no run ends with, and `limits` has files under both sets of limits.
 //!
-//! The lines of the folder `calls/` are written with their answers, as worked tables; the other modules compare. `spelled` reads
-//! the calls and the replies that texts spell.
+//! The lines of the folder `calls/` are written with their answers, as worked tables; the other modules compare. `spelled` reads the calls
+//! and the replies that texts spell.
 #![tactic(auto)]
 
 mod cores;

@@ -99,7 +99,7 @@ fn compare_copy(alloc: Global, copy: &mut SeqTree, limits: Limits, most: u64) ->
     )
 }
 
-/// Where a file has at most so many bytes: the last of them is written, and none behind it.
+/// If a file has at most so many bytes, the last of them is written, and none after it.
 fn compare_tree(alloc: Global, tree: &mut SeqTree, limits: Limits, most: u64) -> Result<()> {
     ensure!(tree.limits() == limits, "the limits of a tree");
     let last = most.wrapping_sub(1);

@@ -13,7 +13,7 @@ fn name_of(alloc: Global, text: &str) -> Result<Name> {
     }
 }
 
-/// How two names stand to each other.
+/// How two names compare.
 pub fn order(alloc: Global, first: &str, second: &str) -> Result<String> {
     let first = name_of(alloc, first)?;
     let second = name_of(alloc, second)?;
@@ -27,7 +27,7 @@ fn path_of(alloc: Global, text: &str) -> Result<Path> {
     Ok(Path::parse_with(alloc, text.as_bytes(), Limits::LARGEST)?)
 }
 
-/// How many names two paths have in common, and how the first stands to the second.
+/// How many names two paths have in common, and how they compare.
 fn compared(alloc: Global, first: &Path, second: &Path) -> Result<String> {
     let (common, is_prefix) = (first.common(second), first.is_prefix_of(second));
     let (is_proper, is_same) = (first.is_proper_prefix_of(second), first.same(second));
@@ -69,7 +69,7 @@ pub fn copy(alloc: Global, text: &str) -> Result<String> {
     Ok(format!(in alloc; "{names} names, {common} in common, root: {is_root}")?)
 }
 
-/// How the numbers of calls, and of seats, stand to each other.
+/// How the numbers of calls, and of seats, compare.
 pub fn numbers(alloc: Global, first: u64, second: u64) -> Result<String> {
     let (call, seat) = (CallNo::new(first), SeatNo::new(first));
     let order = call.cmp(&CallNo::new(second));

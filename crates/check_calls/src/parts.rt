@@ -50,7 +50,7 @@ fn counts_entries(alloc: Global) -> Result<bool> {
     )
 }
 
-/// How the run of a script with one call left, one under way and one that returned ends.
+/// How the run of a script with one call left, one pending and one that returned ends.
 fn counts_calls(alloc: Global) -> bool {
     let input: &[u8] = b"atomfs 1\nthread t\nmkdir /a\nmkdir /b\nmkdir /c\nschedule\nt*9\n";
     let mut writer = Device::new(Vec::new(alloc));

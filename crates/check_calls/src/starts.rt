@@ -1,4 +1,5 @@
-//! Cores that begin at rows: a tree whose copy tells its rows again, rows that no text can spell, and rows for fewer nodes than they are.
+//! Cores that begin at rows: a tree whose copy lists its rows again, rows that no text can spell, and rows for fewer
+//! nodes than they are.
 
 ghost use Rattle.std.specs.Prelude.{◌≤◌};
 ghost use Rattle.fs_names.specs.Limits.{node_limit};
@@ -70,7 +71,7 @@ fn same_row(row: &Row, other: &Row) -> bool {
     same_names(&row.key, &other.key) && row.kind == other.kind && row.bytes == other.bytes
 }
 
-/// Whether a tree tells these rows.
+/// Whether a tree lists these rows.
 fn tells(alloc: Global, tree: &SeqTree, rows: &[Row]) -> Result<bool> {
     let told = tree.rows(alloc)?;
     Ok(
@@ -88,7 +89,7 @@ fn copy_tells(alloc: Global, tree: &SeqTree, rows: &[Row]) -> Result<bool> {
     tells(alloc, &copy, rows)
 }
 
-/// Whether this comes of rows: a tree, a copy of which tells them again, or the place of one that is bad.
+/// Whether this comes of rows: a tree, a copy of which lists them again, or the place of one that is bad.
 fn tree_comes_out(alloc: Global, rows: &[Row], bad: Option<usize>) -> Result<bool> {
     match SeqTree::from_rows(alloc, rows, Limits::V1) {
         Ok(tree) => Ok(bad.is_none() && copy_tells(alloc, &tree, rows)?),
@@ -97,7 +98,7 @@ fn tree_comes_out(alloc: Global, rows: &[Row], bad: Option<usize>) -> Result<boo
     }
 }
 
-/// Whether a core tells rows as those at which it begins, and nothing more.
+/// Whether a core lists rows as those at which it begins, and nothing more.
 fn begins_at(alloc: Global, core: &Core, rows: &[Row]) -> Result<bool> {
     tell(core);
     Ok(tells(alloc, core.start(), rows)? && core.timeline().is_empty() && core.seats() == 0)

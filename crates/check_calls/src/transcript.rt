@@ -1,11 +1,13 @@
-//! Files of lines, each of which is written with its answer. Bytes stand in a line with escapes; a line that begins with `#`
-//! is a comment.
+//! Files of lines, each of which is written with its answer. Bytes are in a line with escapes; a line that begins with
+//! `#` is a comment.
 //!
-//! `order NAME NAME` compares names (by `cmp`, `same` and `is_above`), `paths PATH PATH` paths, and `numbers N N` numbers (by
-//! `cmp` and `==`); `again NAME` tells the bytes of a copy of a name; `copy PATH` compares a path with its copy, `parent PATH` tells how many names the parent has, and the last name,
-//! `nothing` what no bytes are, as a path and as a name, and `faults` the words of all faults. `same REPLY = REPLY` and `calls
-//! CALL = CALL` compare, `errno NAME` gives the number of an error, `parts AT BYTES` two parts of a word, `held BYTES` puts
-//! bytes and names into lists and tells them, `added BYTES` appends in each way, and `back BYTES` takes it back.
+//! `order NAME NAME` compares names (by `cmp`, `same` and `is_above`), `paths PATH PATH` paths, and `numbers N N`
+//! numbers (by `cmp` and `==`). `again NAME` gives the bytes of a copy of a name. `copy PATH` compares a path with its
+//! copy, and `parent PATH` says how many names the parent has, and the last name. `nothing` says what no bytes are, as
+//! a path and as a name, and `faults` has the words of all faults. `same REPLY = REPLY` and `calls CALL = CALL`
+//! compare, and `errno NAME` gives the number of an error. `parts AT BYTES` gives two parts of a word, `held BYTES`
+//! puts bytes and names into lists and takes them out, `added BYTES` appends in each way, and `back BYTES` takes it
+//! back.
 
 use crate::{names, words};
 use anyhow::{Result, bail};
@@ -15,7 +17,7 @@ use std::alloc::{AllocError, Global};
 use std::fs;
 use std::rt::Files;
 
-/// The first word of a line, and what stands behind it.
+/// The first word of a line, and what comes after it.
 fn first_word(line: &str) -> (&str, &str) {
     line.split_once(' ').unwrap_or((line, ""))
 }

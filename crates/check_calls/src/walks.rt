@@ -1,4 +1,4 @@
-//! Where a walk and the heads of a rename stand after each step, and a call that begins and is cancelled.
+//! Where a walk and the heads of a rename are after each step, and a call that begins and is cancelled.
 
 ghost use Rattle.std.specs.Prelude.{◌≡◌, ◌≤◌, IfSome, None};
 ghost use Rattle.fs_names.specs.declared.limits.TheConstants.{NODE_LIMIT};
@@ -13,12 +13,13 @@ use fs_ops::Op;
 use fs_walk::{Fork, Head, Side, Walk};
 use std::alloc::Global;
 
-/// Where a walk stands, what is behind it, and whether it may take a node.
+/// Where a walk is, which node it left, and whether it may take a node.
 fn place(walk: &Walk) -> (Option<NodeNo>, Option<NodeNo>, bool) {
     (walk.node(), walk.behind(), walk.may_take())
 }
 
-/// A walk along one name takes the root and the node of the name, and lets go what is behind, and that alone.
+/// A walk along one name takes the root and the node of the name, and lets go of the node that it left, and of that
+/// alone.
 fn compare_walk() -> Result<()> {
     let (root, node) = (NodeNo::new(0), NodeNo::new(7));
     let mut walk = Walk::new(1);
@@ -35,7 +36,7 @@ fn compare_walk() -> Result<()> {
     Ok(())
 }
 
-/// Where the heads of a fork stand, and what is behind.
+/// Where the heads of a fork are, and which node they left.
 fn heads(fork: &Fork) -> (Head, Head, Option<NodeNo>) {
     (fork.source(), fork.dest(), fork.behind())
 }
@@ -64,7 +65,7 @@ fn compare_fork(source: &Path, dest: &Path) -> Result<()> {
     Ok(())
 }
 
-/// The number that a call which has begun reserved: nothing else has it, and the call stands nowhere.
+/// The number that a call which has begun reserved: nothing else has it, and the call is nowhere yet.
 fn reserved(op: &Op, store: &Store) -> Option<NodeNo>
     ensures spare { IfSome result (λ _. SpareIf (graph_of store.now) op.now.reserved) }
     ensures start { IfSome result (λ _. op.now.holdings ≡ None) }

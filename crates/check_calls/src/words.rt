@@ -1,4 +1,4 @@
-//! Calls and replies, told apart, and what texts are made of.
+//! Calls and replies, and whether they are the same, and what texts are made of.
 
 use crate::spelled::{calls_of, reply_in, return_of};
 use crate::transcript::shown;
@@ -10,7 +10,7 @@ use fs_text::Addition;
 use fs_text::words::parts;
 use std::alloc::{AllocError, Global};
 
-/// What stands before and behind ` = `.
+/// What comes before and after ` = `.
 fn sides(text: &str) -> Result<(&str, &str)> {
     match text.split_once(" = ") {
         Some(sides) => Ok(sides),
@@ -44,7 +44,7 @@ pub fn errno(alloc: Global, name: &str) -> Result<String> {
     }
 }
 
-/// What stands before a place, and behind the byte there.
+/// What comes before a place, and after the byte there.
 pub fn two_parts(alloc: Global, at: usize, bytes: &[u8]) -> Result<String> {
     ensure!(at < bytes.len(), "a place beyond the end");
     let (front, back) = parts(bytes, at);
@@ -68,7 +68,7 @@ fn listed(alloc: Global, bytes: &[u8]) -> Result<NameList> {
     Ok(room.into_list())
 }
 
-/// Whether a list, and a copy of it, tell this name alone, and are the same.
+/// Whether a list, and a copy of it, have this name alone, and are the same.
 fn tells(list: &NameList, name: &[u8]) -> Result<bool> {
     let copy = list.copy()?;
     let (mut names, mut again) = (list.names(), copy.names());
@@ -76,7 +76,7 @@ fn tells(list: &NameList, name: &[u8]) -> Result<bool> {
     Ok(is_told && names.next().is_none() && again.next().is_none() && copy.same(list))
 }
 
-/// Bytes, and their name, put into lists, copied and told again.
+/// Bytes, and their name, put into lists, copied and taken out again.
 pub fn held(alloc: Global, bytes: &[u8]) -> Result<String> {
     let list = Bytes::new(Vec::from_slice(alloc, bytes)?);
     let copy = list.copy()?;
@@ -86,7 +86,7 @@ pub fn held(alloc: Global, bytes: &[u8]) -> Result<String> {
     Ok(format!(in alloc; "{length} bytes, same: {are_same}, the name alone: {is_told}")?)
 }
 
-/// Bytes behind `|`: as they are, their count, as hex digits, and with escapes.
+/// Bytes after `|`: as they are, their count, as hex digits, and with escapes.
 fn addition(alloc: Global, bytes: &[u8]) -> Result<Addition, AllocError> {
     let mut line = Addition::new(Vec::from_slice(alloc, b"|")?);
     line.push(bytes)?;
@@ -96,7 +96,7 @@ fn addition(alloc: Global, bytes: &[u8]) -> Result<Addition, AllocError> {
     Ok(line)
 }
 
-/// What was added, and what stood there before.
+/// What was added, and what was there before.
 pub fn added(alloc: Global, bytes: &[u8]) -> Result<String> {
     shown(alloc, &[&addition(alloc, bytes)?.kept()])
 }

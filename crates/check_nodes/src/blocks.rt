@@ -280,7 +280,7 @@ fn look_everywhere(alloc: Global, pair: &Pair) -> Result<()> {
     Ok(())
 }
 
-/// Reads across blocks, and across holes before and behind them.
+/// Reads across blocks, and across holes before and after them.
 fn blocks_and_holes(alloc: Global) -> Result<()> {
     let mut pair = empty(alloc, 0);
     let deeds = [

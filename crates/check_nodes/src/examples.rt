@@ -9,7 +9,7 @@ use fs_names::{Kind, Name};
 use fs_nodes::{NoNode, NodeNo};
 use std::alloc::{AllocError, Global};
 
-/// A name in a directory, which stands here by its number.
+/// A name in a directory, which is written here with its number.
 type At = (usize, &'static [u8]);
 
 /// An entry that is read: its name, and the node that it names.
@@ -31,7 +31,7 @@ enum Deed {
     Parent(usize, Option<usize>),
     Entries(usize, usize),
     IsFile(usize),
-    /// The first entry of a directory, or the next one behind a name.
+    /// The first entry of a directory, or the next one after a name.
     Next(usize, Option<&'static [u8]>, Entry),
     After(usize, Entry),
     /// A file gets bytes, and has them; the old ones are handed out.
@@ -41,7 +41,7 @@ enum Deed {
 /// A deed, and what it says.
 type Row = (Deed, &'static str);
 
-/// A name of a byte more than stand in place.
+/// A name of a byte more than is kept in place.
 const LONG_A: &[u8] = &[b'a'; 65];
 
 /// One that differs in its last byte.
@@ -92,8 +92,8 @@ const NAMES_IN_ORDER: &[Row] = &[
     (Deed::Unlink((0, b"a"), None), "an entry below it"),
 ];
 
-/// Of two names of more bytes than stand in place, which differ in their last one, the first is found and goes; and then the
-/// longest one.
+/// Of two names of more bytes than are kept in place, which differ in their last one, the first is found and goes; and
+/// then the longest one.
 const LONG_NAMES: &[Row] = &[
     (Deed::Reserve(Kind::File, Some(1)), "a first number"),
     (Deed::Reserve(Kind::Dir, Some(2)), "a second number"),
@@ -242,7 +242,7 @@ fn hands_out(
     }
 }
 
-/// Whether a file has the old bytes first, and these behind the swap.
+/// Whether a file has the old bytes first, and these after the swap.
 fn is_swapped(
     alloc: Global,
     used: &mut Linked,

@@ -1,4 +1,5 @@
-//! Directories of far more entries than any limits allow: at how many places is looked for where a name stands in their order.
+//! Directories of far more entries than any limits allow: how many places are looked at to find the place of a name in
+//! their order.
 
 use crate::calls::Linked;
 use crate::looks::Looks;
@@ -18,7 +19,8 @@ const SOME: u32 = 4_000;
 /// More nodes than there are.
 const NODES: usize = 101_000;
 
-/// Names that have one home in the root, in an index for so many entries and in any lesser one: more than stand in slots there.
+/// Names that have one home in the root, in an index for so many entries and in any lesser one: more than the slots
+/// there hold.
 const OF_ONE_HOME: [&[u8]; 48] = [
     b"stpmaa", b"xxjtaa", b"fkztaa", b"bbhzaa", b"ksvqba", b"pwpxba", b"hbzeca", b"mjvbda",
     b"iadhda", b"jqxcfa", b"fhfifa", b"kpbfga", b"gtxnga", b"ckftga", b"gxzdha", b"cohjha",
@@ -97,7 +99,7 @@ fn thin(order: Order, entries: u32, linked: &mut Linked) {
     }
 }
 
-/// At how many places is looked for where their names stand.
+/// How many places are looked at to find the places of their names.
 fn looks(order: Order, entries: u32, linked: &Linked) -> Looks {
     let mut random = Pcg32::seed_from_u64(4);
     let mut looks = Looks::default();

@@ -1,8 +1,9 @@
-//! The calls of a store whose conditions are asked first, so that drawn calls can be made on it, and what is checked of one store.
+//! What is checked of one store. It also has the calls of a store with their conditions asked first, so that drawn calls can be made on
+//! it.
 //!
-//! `calls` has them for the store with sibling links and for the one without an index, which `check_stores` compares; `looks`
-//! counts at how many places look-ups look. `run` uses a store, files in blocks, sleepers, holders and held nodes as their examples do;
-//! `large::run` has directories of far more entries than any limits allow.
+//! `calls` has these calls for the store with sibling links and for the one without an index, which `check_stores` compares. `looks`
+//! counts how many places look-ups look at. `run` uses a store, files in blocks, sleepers, holders and held nodes as their examples do.
+//! `large::run` has directories with far more entries than any limits allow.
 #![tactic(auto)]
 
 pub mod blocks;

@@ -13,7 +13,7 @@ use std::sync::ledger::Blank;
 use std::thread::Threads;
 use std::time::Clock;
 
-/// A directory of which others are told, and a file of which nobody is.
+/// A directory that is published, and a file that is not.
 const BEFORE: &[Step] = &[
     Step::Tells(Deed::Mkdir(b"/a"), 0),
     Step::Makes(Deed::Mknod(b"/f")),
@@ -85,7 +85,7 @@ fn give_up<N: Named, R: Wait>(rt: &R, left: NotKept<N>) {
     let _closed = fs.close(rt, tallies);
 }
 
-/// A tree begins again under another name. Whether its observers show what was made before, and what is made behind.
+/// A tree begins again under another name. Whether its observers show what was made before, and what is made after.
 fn begins_again<N: Named, M: Named, R: Wait + Clock>(
     rt: &R,
     alloc: Global,

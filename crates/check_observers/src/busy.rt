@@ -9,13 +9,13 @@ use std::thread;
 use std::thread::Threads;
 use std::time::Clock;
 
-/// How many calls are told at the most, two in each round.
+/// How many calls are published at the most, two in each round.
 const ROUNDS: usize = 500_000;
 
 /// The observer asks until it is shown so many calls.
 const SHOWN: u64 = 200;
 
-/// Makes a directory and removes it. Whether each is told.
+/// Makes a directory and removes it. Whether each is published.
 fn round<N: Named, R: Wait + Clock>(
     rt: &R,
     alloc: Global,
@@ -27,7 +27,7 @@ fn round<N: Named, R: Wait + Clock>(
     made && tell(rt, alloc, session, Deed::Rmdir(b"/a"), place).is_some()
 }
 
-/// What either thread tells the other.
+/// What either thread says to the other.
 #[derive(Drop)]
 struct Flags {
     asked: AtomicU64,

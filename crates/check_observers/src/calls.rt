@@ -49,7 +49,7 @@ fn is_right<N: Named>(told: &Told<N>, place: usize) -> bool {
     told.place == place && told.stamp.is_some() && !has_failed
 }
 
-/// Makes a call that is told, which must succeed, with this place and a stamp.
+/// Makes a published call, which must succeed, with this place and a stamp.
 fn told_by<N: Named, R: Wait + Clock>(
     rt: &R,
     alloc: Global,
@@ -77,7 +77,7 @@ pub fn tell<N: Named, R: Wait + Clock>(
     }
 }
 
-/// Whether a call that is not told is replied that it is done.
+/// Whether the reply of a call that is not published is that it is done.
 fn is_done<N: Named, R: Wait + Clock, G: Gate>(
     rt: &R,
     alloc: Global,

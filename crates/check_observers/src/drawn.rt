@@ -75,7 +75,7 @@ struct Run {
     over: AtomicU64,
 }
 
-/// Whether a call that is told has this place and a stamp.
+/// Whether a published call has this place and a stamp.
 fn is_told<N: Named, R: Wait + Clock>(
     rt: &R,
     alloc: Global,
@@ -89,8 +89,8 @@ fn is_told<N: Named, R: Wait + Clock>(
     }
 }
 
-/// The call at a place. One in ten is told, which must have that place and a stamp. After one in a thousand the writer waits
-/// until as many answers are noted as there are observers.
+/// The call at a place. One in ten is published, which must have that place and a stamp. After one in a thousand the
+/// writer waits until as many answers are noted as there are observers.
 fn write<N: Named, R: Wait + Clock>(
     rt: &R,
     alloc: Global,
@@ -155,7 +155,7 @@ fn reply<N: Named>(alloc: Global, observer: &mut Observer<'_, N>, look: &Call) -
     }
 }
 
-/// One of the four looks at a path; names are listed behind the last one of another path, two at the most.
+/// One of the four looks at a path; names are listed after the last one of another path, two at the most.
 fn look(path: Path, after: Path, number: usize) -> Call {
     match number {
         0 => Call::Stat(path),

@@ -1,4 +1,4 @@
-//! A call whose caller is told where it took effect, and two threads that are handed its stamp: their observers show it.
+//! A call whose caller learns where it took effect, and two threads that are handed its stamp: their observers show it.
 
 ghost use Rattle.std.specs.Prelude.{◌≡◌, ◌^◌};
 
@@ -26,7 +26,7 @@ fn is_shown<N: Named, R: Wait>(
     Some(matches!(observer.stat(alloc, &path), Ok(Reply::Stat(Kind::Dir, 0))))
 }
 
-/// The stamp of a call that is told.
+/// The stamp of a published call.
 fn tell<N: Named, R: Wait + Clock>(
     rt: &R,
     alloc: Global,

@@ -1,4 +1,4 @@
-//! Observers and a told rename, while a call is held by its gate.
+//! Observers and a published rename, while a call is held by its gate.
 
 use crate::calls::{Deed, Sight, makes};
 use crate::told::{Step, comes_out};
@@ -52,14 +52,14 @@ const MADE: &[Step] = &[
     Step::Tells(Deed::Mkdir(b"/a/d"), 1),
 ];
 
-/// An observer answers by what was told.
+/// An observer answers by what was published.
 const ANSWERS: &[Step] = &[
     Step::Shows(b"/a", Sight::Name(b'd')),
     Step::Shows(b"/a/d", Sight::EmptyDir),
     Step::Counts(2),
 ];
 
-/// The directory above is renamed behind the call that is held. An observer that is told shows what that call made.
+/// The directory above is renamed after the call that is held. An observer that learns of it shows what that call made.
 const MOVES: &[Step] = &[
     Step::Tells(Deed::Rename(b"/a", b"/b"), 3),
     Step::Learns(0),
@@ -67,7 +67,7 @@ const MOVES: &[Step] = &[
     Step::Counts(4),
 ];
 
-/// Makes `/a/d/x` by a call that is not told. Whether it is made.
+/// Makes `/a/d/x` by a call that is not published. Whether it is made.
 fn is_made<N: Named, R: Wait + Clock>(
     rt: &R,
     alloc: Global,
@@ -80,7 +80,7 @@ fn is_made<N: Named, R: Wait + Clock>(
     }
 }
 
-/// What is done once the caller stands, after which it is let go.
+/// What is done once the caller is held, after which it is let go.
 fn meanwhile<N: Named, R: Wait + Clock>(
     rt: &R,
     alloc: Global,
@@ -110,7 +110,7 @@ fn beside<N: Named + Send + Sync, R: Threads + Wait + Clock + Sync>(
     Some(made? && seen? && gate.found.load(Ordering::SeqCst) == 1)
 }
 
-/// The same on a tree with `/a/d`: an observer answers, or the directory is renamed by a told call.
+/// The same on a tree with `/a/d`: an observer answers, or the directory is renamed by a published call.
 pub fn comes_out_beside<N: Named + Send + Sync, R: Threads + Wait + Clock + Sync>(
     rt: &R,
     alloc: Global,

@@ -1,5 +1,5 @@
-//! Runs told callers and observers on shared trees, also beside calls that a gate holds and writers that publish, and says of
-//! each run whether it came out as it must. Neither the program nor the library for C has observers.
+//! Runs observers on shared trees beside callers that publish their calls, and says of each run whether it came out as it must. In some
+//! runs a gate holds a call meanwhile, or writers publish. Neither the program nor the library for C has observers.
 #![tactic(auto)]
 
 mod again;

@@ -1,4 +1,4 @@
-//! What an observer was told of, beside the journal that the tree hands out at its end.
+//! What an observer learned, beside the journal that the tree hands out at its end.
 
 ghost use Rattle.std.specs.Prelude.{◌≡◌, ◌^◌};
 
@@ -27,7 +27,7 @@ fn seen<N: Named, R: Wait + Clock>(rt: &R, alloc: Global, fs: &AtomFs<N>) -> Opt
     }
 }
 
-/// Whether a tree of a name tells at its end that the observer's list is a beginning of what committed.
+/// Whether a tree of a name says at its end that the observer's list is a beginning of what committed.
 fn on_named<N: Named, R: Wait + Clock>(
     rt: &R,
     alloc: Global,

@@ -1,4 +1,4 @@
-//! Calls that are told, and observers that learn their stamps: rows of steps, by one session and one observer.
+//! Published calls, and observers that learn their stamps: rows of steps, by one session and one observer.
 
 use crate::calls::{Deed, Sight, makes, shows, tell};
 use fs_share::{AtomFs, Named, Observer, Open, Session, Stamp, Told};
@@ -9,11 +9,11 @@ use std::time::Clock;
 /// What is done, and what must come of it.
 #[derive(Clone, Copy)]
 pub enum Step {
-    /// A told call succeeds, with this place and a stamp.
+    /// A published call succeeds, with this place and a stamp.
     Tells(Deed, usize),
-    /// A call that is not told is done.
+    /// A call that is not published is done.
     Makes(Deed),
-    /// The observer learns the stamp of a told call of the row, counted from 0.
+    /// The observer learns the stamp of a published call of the row, counted from 0.
     Learns(usize),
     /// The observer shows this at a path.
     Shows(&'static [u8], Sight),
@@ -21,7 +21,8 @@ pub enum Step {
     Counts(u64),
 }
 
-/// A first told call has place 0. An observer that was told nothing shows what was published, the empty tree before.
+/// A first published call has place 0. An observer that learned nothing shows what was published, the empty tree
+/// before.
 pub const FIRST: &[Step] = &[
     Step::Shows(b"/a", Sight::Nothing),
     Step::Counts(0),
@@ -40,7 +41,7 @@ pub const BOTH_STAMPS: &[Step] = &[
     Step::Counts(2),
 ];
 
-/// An observer reads what a told call wrote.
+/// An observer reads what a published call wrote.
 pub const WRITTEN: &[Step] = &[
     Step::Tells(Deed::Mknod(b"/f"), 0),
     Step::Tells(Deed::Write(b"/f", b"hi"), 1),
@@ -48,7 +49,7 @@ pub const WRITTEN: &[Step] = &[
     Step::Shows(b"/f", Sight::Bytes(b"hi")),
 ];
 
-/// A call that is not told is shown once a later one is told, and not before.
+/// A call that is not published is shown once a later one is published, and not before.
 pub const UNTOLD: &[Step] = &[
     Step::Makes(Deed::Mkdir(b"/a")),
     Step::Shows(b"/a", Sight::Nothing),
@@ -59,7 +60,7 @@ pub const UNTOLD: &[Step] = &[
     Step::Counts(2),
 ];
 
-/// Has an observer learn the stamp of a told call.
+/// Has an observer learn the stamp of a published call.
 fn learns<N: Named>(observer: &mut Observer<'_, N>, told: &Told<N>) -> Option<bool> {
     observer.learn(told.stamp.as_ref()?);
     Some(true)
@@ -77,7 +78,7 @@ pub fn shows_after<N: Named>(
     shows(alloc, observer, text, sight)
 }
 
-/// Makes a told call, and keeps what it is told.
+/// Makes a published call, and keeps what it answers.
 fn tells<N: Named, R: Wait + Clock>(
     rt: &R,
     alloc: Global,

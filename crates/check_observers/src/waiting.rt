@@ -7,7 +7,7 @@ use std::time::{Clock, Duration};
 /// The most turns of a millisecond.
 const TURNS: u64 = 10_000;
 
-/// Waits until a number is at least so great, and tells whether it is.
+/// Waits until a number is at least so great, and answers whether it is.
 pub fn reaches<R: Clock>(rt: &R, number: &AtomicU64, least: u64) -> bool {
     for _ in 0..TURNS {
         if number.load(Ordering::SeqCst) >= least {

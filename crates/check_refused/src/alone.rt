@@ -68,7 +68,7 @@ impl Again {
         }
     }
 
-    /// A tree is told as rows.
+    /// The rows of a tree.
     fn rows(&mut self, tree: &SeqTree) -> Result<Vec<Row>, AllocError> {
         match tree.rows(self.alloc) {
             Ok(rows) => Ok(rows),
@@ -96,7 +96,7 @@ impl Again {
         self.rows(&copy)
     }
 
-    /// A copy of a tree, told as rows and made of these again.
+    /// A copy of a tree, taken out as rows and made of these again.
     fn same_tree(&mut self, tree: &SeqTree) -> anyhow::Result<SeqTree> {
         let rows = self.rows_of_copy(tree)?;
         match self.from_rows(&rows) {
@@ -116,7 +116,7 @@ impl Again {
     }
 }
 
-/// What bytes are in all, by which others of as many are told apart.
+/// What bytes are in all, by which others of as many differ.
 fn in_all(bytes: &[u8]) -> u64 {
     let mut sum = 0u64;
     for byte in bytes {

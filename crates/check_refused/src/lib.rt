@@ -1,8 +1,9 @@
-//! Does each thing that takes memory, and once more where memory was refused: on shared trees sessions, told calls,
-//! observers, jobs, checkpoints and lists of calls, and by one thread alone the sequential tree, a file in blocks, a core, its
-//! texts and `Memory`. Neither the program nor the library for C has sessions, observers and pools, and both have a sequential tree
-//! only inside a check, which ends where memory is refused. But for the last line, what is written is the same whichever
-//! growth is refused.
+//! Does each thing that takes memory, and does it once more after memory was refused. On shared trees these are sessions, published calls,
+//! observers, jobs, checkpoints and lists of calls. On one thread they are the sequential tree, a file in blocks, a core, its texts and
+//! `Memory`.
+//!
+//! Neither the program nor the library for C has sessions, observers and pools. Both have a sequential tree only inside a check, which
+//! ends if memory is refused. Apart from the last line, the output is the same whichever growth is refused.
 #![tactic(auto)]
 
 mod alone;
@@ -23,9 +24,9 @@ use std::sync::Wait;
 use std::thread::Threads;
 use std::time::Clock;
 
-/// The calls of a session, those of which others are told, and those of the sequential tree, which grow all that it holds:
-/// nodes, entries, bytes and replies; looks at that tree; and those of a file in blocks, at their edges and the limit. Names of
-/// 70 bytes are shared by what holds them.
+/// The calls of a session, those that are published, and those of the sequential tree, which grow all that it holds:
+/// nodes, entries, bytes and replies; looks at that tree; and those of a file in blocks, at their edges and the limit.
+/// Names of 70 bytes are shared by what holds them.
 const CALLS: &[u8] = b"\
 atomfs 3
 thread session

@@ -8,8 +8,8 @@ use std::sync::Wait;
 use std::thread::Threads;
 use std::time::Clock;
 
-/// A new tree on which all lists were played. A refusal leaves nothing behind, so they are all played once more. A worker that has no
-/// memory to start is none.
+/// A new tree on which all lists were played. A refusal leaves nothing, so they are all played once more. A worker that
+/// has no memory to start is none.
 fn played<R: Threads + Wait + Clock + Sync>(
     rt: &R,
     alloc: Global,

@@ -1,4 +1,4 @@
-//! Sessions, told calls, observers and jobs on a tree that is shared.
+//! Sessions, published calls, observers and jobs on a tree that is shared.
 
 ghost use Rattle.std.specs.Prelude.{◌≡◌, ◌^◌};
 
@@ -23,7 +23,7 @@ use std::time::Clock;
 pub struct Seen {
     /// How many calls a session had answered.
     pub answered: usize,
-    /// How many names an observer shows who was told.
+    /// How many names an observer shows that has learned of them.
     pub shown: usize,
     /// The numbers of the jobs.
     pub numbers: (u64, u64),
@@ -60,7 +60,7 @@ fn answers<N: Named, R: Wait + Clock>(
     Some(answered)
 }
 
-/// The stamp of a told call.
+/// The stamp of a published call.
 fn stamp_of<N: Named, R: Wait + Clock>(
     rt: &R,
     alloc: Global,
@@ -71,7 +71,7 @@ fn stamp_of<N: Named, R: Wait + Clock>(
     told.stamp
 }
 
-/// The stamp of the last of told calls. Where it has none, the stamp of a further one tells of it too.
+/// The stamp of the last of published calls. If it has none, the stamp of a further one covers it too.
 fn newest<N: Named, R: Wait + Clock>(
     rt: &R,
     alloc: Global,
@@ -88,7 +88,7 @@ fn newest<N: Named, R: Wait + Clock>(
     }
 }
 
-/// How many names an observer shows at the root who learns of told calls.
+/// How many names an observer shows at the root that learns of published calls.
 fn shown<N: Named, R: Wait + Clock>(
     rt: &R,
     alloc: Global,
@@ -151,7 +151,8 @@ fn is_left(job: &Job, calls: &(Call, Call)) -> bool {
     }
 }
 
-/// How many jobs of a pool are done or left, each as it must be, and how many were refused: only for want of memory.
+/// How many jobs of a pool are done or left, each as it must be, and how many were refused: only because memory ran
+/// out.
 fn counts<N: Named>(collected: &Collected<N>, calls: &(Call, Call)) -> (usize, usize) {
     let mut count = 0usize;
     let mut refused = 0usize;
@@ -204,7 +205,7 @@ fn jobs<N: Named + Send + Sync, R: Threads + Wait + Clock + Sync>(
     jobs_of(rt, alloc, fs, &calls)
 }
 
-/// How many calls a session has answered, and how many names an observer shows who was told of further ones.
+/// How many calls a session has answered, and how many names an observer shows that has learned of further ones.
 fn see<N: Named, R: Wait + Clock>(
     rt: &R,
     alloc: Global,
@@ -219,7 +220,7 @@ fn see<N: Named, R: Wait + Clock>(
     Some((answered, shown))
 }
 
-/// A tally is put behind others.
+/// Puts a tally after others.
 fn add<N: Named>(tallies: &mut Vec<Tally<N>>, tally: Tally<N>) -> Option<()> {
     if tallies.reserve(1).is_err() {
         tallies.reserve(1).ok()?;
@@ -290,7 +291,7 @@ fn once<R: Threads + Wait + Clock + Sync>(
     on_named::<Brand, R>(rt, alloc, Opened::new(), Blank::new(1 << 63), calls, told)
 }
 
-/// What is seen on a tree, and what stands when it was closed.
+/// What is seen on a tree, and what is there when it was closed.
 pub fn on_tree<R: Threads + Wait + Clock + Sync>(
     rt: &R,
     alloc: Global,

@@ -1,4 +1,4 @@
-//! Entries and a tree that are written behind other bytes, once more where memory was refused.
+//! Entries and a tree that are written after other bytes, once more after memory was refused.
 
 use anyhow::{Result, ensure};
 use fs_core::Core;
@@ -8,7 +8,7 @@ use fs_text::write_entry;
 use fs_timeline::Entry;
 use std::alloc::Global;
 
-/// What stands in a text before, and alone behind a refusal.
+/// What is in a text before, and alone after a refusal.
 const BEFORE: &[u8] = b"before\n";
 
 /// How much of entries and of a tree was written, and how often memory was refused.
@@ -25,7 +25,7 @@ impl Written {
         self.refused = self.refused.wrapping_add(1);
     }
 
-    /// A text that others are written behind.
+    /// A text after which others are written.
     fn text(&mut self) -> Result<Vec<u8>> {
         let mut text = Vec::new(self.alloc);
         if text.extend_from_slice(BEFORE).is_err() {

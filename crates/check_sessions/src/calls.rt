@@ -33,12 +33,12 @@ pub fn is_lawful(alloc: Global, entries: &[Entry]) -> Option<bool> {
     Some(matches!(check(alloc, entries).ok()?, Verdict::Lawful))
 }
 
-/// Where the Commit of a call stands among entries, if it does.
+/// Where the Commit of a call is among entries, if it is there.
 pub fn commit_place(entries: &[Entry], call: CallNo) -> Option<usize> {
     entries.iter().position(|entry| matches!(entry, Entry::Commit(number) if *number == call))
 }
 
-/// Where the Return of a call stands among entries, if it does.
+/// Where the Return of a call is among entries, if it is there.
 pub fn return_place(entries: &[Entry], call: CallNo) -> Option<usize> {
     entries.iter().position(|entry| matches!(entry, Entry::Return(number, _) if *number == call))
 }
@@ -69,7 +69,7 @@ pub fn fits(entries: &[Entry], call: &Call, answer: &Answer) -> bool {
     begun == 1 && returned == 1
 }
 
-/// Notes the number of an answer, and tells whether it is new and has a place.
+/// Notes the number of an answer, and answers whether it is new and has a place.
 pub fn is_new(seen: &mut [bool], answer: &Answer) -> bool {
     let number = answer.call.get() as usize;
     if number >= seen.len() || seen[number] {

@@ -1,9 +1,9 @@
-//! What the checks of threads and of pools share: calls that sessions play on a shared tree until it is ended, a gate that
-//! holds one of them, and what its timeline and its nodes then say.
+//! What the checks of threads and of pools share. Sessions play calls on a shared tree until it is ended, and a gate holds one of them.
+//! Then its timeline and its nodes are looked at.
 //!
-//! `playing` has sessions with their answers and tallies, `calls` compares lists and answers with a timeline, `walking` the
-//! nodes that are left with those of a sequential tree that plays the commits. A flag is waited for up to a bound, so that what
-//! does not come ends a run as one that came out wrong; `say` says which it was.
+//! `playing` has sessions with their answers and tallies, and `calls` compares lists and answers with a timeline. `walking` compares the
+//! nodes that are left with those of a sequential tree that plays the commits. A flag is waited for up to a bound, so a run in which
+//! something does not come ends as one that went wrong. `say` says which one it was.
 #![tactic(auto)]
 
 pub mod calls;

@@ -62,7 +62,7 @@ pub struct Ended {
     pub closed: Closed,
 }
 
-/// Puts the answers of a session behind those of others, and its tally too.
+/// Puts the answers of a session after those of others, and its tally too.
 fn add<N: Named>(
     played: Played<N>,
     answers: &mut Vec<Vec<Answer>>,
@@ -98,7 +98,7 @@ pub fn tallies_of<N: Named>(alloc: Global, sessions: Option<Sessions<N>>) -> Opt
     Some(tallies)
 }
 
-/// Ends a tree, and tells what all of its sessions answered.
+/// Ends a tree, and answers what all of its sessions answered.
 pub fn end<N: Named, R: Wait>(
     rt: &R,
     alloc: Global,

@@ -10,7 +10,7 @@ use std::time::{Clock, Duration};
 /// The most turns of a millisecond.
 pub const TURNS: u64 = 10_000;
 
-/// Waits until a flag is set, and tells whether it was.
+/// Waits until a flag is set, and answers whether it was.
 pub fn is_set<R: Clock>(rt: &R, flag: &AtomicU64) -> bool {
     is_set_within(rt, flag, TURNS)
 }

@@ -18,8 +18,8 @@ const NODES: usize = 603;
 /// How many calls are drawn for each kind of names.
 const CALLS: u32 = 6_000;
 
-/// Names that have one home in the directory of number 1, in an index of 2,048 homes and in any lesser one: more than stand in
-/// slots there.
+/// Names that have one home in the directory of number 1, in an index of 2,048 homes and in any lesser one: more than
+/// the slots there hold.
 const OF_ONE_HOME: [&[u8]; 48] = [
     b"uhmtn", b"sjljn", b"csxgq", b"xeafhu", b"creid", b"jmghg", b"ipsrl", b"oelns", b"qqfszs",
     b"bfuuqu", b"fugzod", b"xzgjf", b"dzvdc", b"vdtold", b"pqzry", b"qwika", b"ztqpte", b"wsyok",

@@ -1,5 +1,5 @@
-//! What is drawn: few names, short ones, ones that differ past their eighth byte and ones that differ past all that stand in
-//! place, so that calls meet.
+//! What is drawn: few names, short ones, ones that differ past their eighth byte and ones that differ past all that is
+//! kept in place, so that calls meet.
 
 use fs_names::Name;
 use rand_core::Rng;

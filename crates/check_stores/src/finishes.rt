@@ -14,7 +14,7 @@ use std::alloc::Global;
 /// The limits of both: a file has at most four blocks.
 const LIMITS: Limits = Limits::V1;
 
-/// Offsets and sizes: at the start, about the edges of blocks, at the most and behind it.
+/// Offsets and sizes: at the start, about the edges of blocks, at the most and after it.
 const EDGES: [u64; 7] = [
     0,
     1,

@@ -1,12 +1,12 @@
-//! Makes drawn calls on the store with sibling links and on the one without an index, beside what `check_nodes` checks of one
-//! store. No program and no library for C shows a second store, the number of entries that a look-up looked at, or who holds
-//! what.
+//! Makes drawn calls on the store with sibling links and on the one without an index, and runs what `check_nodes` checks of one store. No
+//! program and no library for C shows a second store, the number of entries that a look-up looked at, or who holds what.
 //!
-//! A drawn call is made where its conditions hold, also of directories with entries; others are drawn in the place of those
-//! that cannot be made. It writes how many calls of each kind were made, and how many answers differed: none. Then calls are
-//! drawn on full directories, also with names that the index keeps apart badly, and at how many places look-ups look is
-//! written. Then entries change what they name, those of a small tree and drawn ones, beside calls of a stream of their own, and
-//! a file in blocks of each store has the bytes of a vector. Last, calls finish in a store of files in blocks as in one without.
+//! A drawn call is made if its conditions hold, also on directories with entries. If they do not, another one is drawn in its place. The
+//! output has how many calls of each kind were made, and how many answers differed: none. Then calls are drawn on full directories, some
+//! with names that the index keeps apart badly. The output has how many places look-ups look at.
+//!
+//! After that entries change what they name, those of a small tree and drawn ones, beside calls of a stream of their own. A file in blocks
+//! of each store has the bytes of a vector. Last, calls finish in a store of files in blocks as in one without.
 #![tactic(auto)]
 
 mod crowded;

@@ -1,5 +1,5 @@
-//! A tree that begins again: what its sessions did up to the checkpoint is in the entries that it hands out, and what those
-//! behind it do in the timeline that starts there.
+//! A tree that begins again: what its sessions did up to the checkpoint is in the entries that it hands out, and what
+//! later ones do is in the timeline that starts there.
 
 ghost use Rattle.std.specs.Prelude.{◌≡◌, ◌^◌};
 
@@ -18,8 +18,8 @@ use std::thread;
 use std::thread::Threads;
 use std::time::Clock;
 
-/// The calls of two sessions side by side up to the checkpoint, and those of two behind it. The read is lawful from the tree
-/// that the first two leave, and not from the root alone.
+/// The calls of two sessions side by side up to the checkpoint, and those of two after it. The read is lawful from the
+/// tree that the first two leave, and not from the root alone.
 const CALLS: &[u8] = b"\
 atomfs 1
 thread before

@@ -46,7 +46,7 @@ fn low(random: &mut Pcg32) -> u32 {
     }
 }
 
-/// Two paths of one depth, mostly of what stands high.
+/// Two paths of one depth, mostly of what is high in the tree.
 fn drawn_pair(alloc: Global, random: &mut Pcg32) -> Option<(Path, Path)> {
     let names = match below(random, 6) {
         0..3 => 1,

@@ -71,7 +71,7 @@ pub struct Parts<'a> {
     pub other: &'a [Call],
 }
 
-/// The calls that are held. Where they have fewer events than they are held after, the other ones begin behind them.
+/// The calls that are held. If they have fewer events than they are held after, the other ones begin after them.
 fn held<N: Named, R: Wait + Clock>(
     rt: &R,
     alloc: Global,
@@ -84,7 +84,7 @@ fn held<N: Named, R: Wait + Clock>(
     played
 }
 
-/// The other calls once the held caller stands, after which the caller is let go.
+/// The other calls once the caller is held, after which the caller is let go.
 fn other<N: Named, R: Wait + Clock>(
     rt: &R,
     alloc: Global,

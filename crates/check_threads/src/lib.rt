@@ -1,6 +1,6 @@
-//! Runs real threads on shared trees, by sessions, lists and pools, also under gates that hold a call at a place of its walk, and
-//! says of each run whether it came out as it must. The program plays the lists of a script on threads and no more: it has no
-//! sessions, pools and gates, and tells no order of what its threads did. `check_sessions` plays and compares.
+//! Runs real threads on shared trees, by sessions, lists and pools, and says of each run whether it came out as it must. Some runs have a
+//! gate that holds a call at a place of its walk. The program plays only the lists of a script on threads. It has no sessions, pools and
+//! gates, and does not report in which order its threads did what. `check_sessions` plays and compares.
 #![tactic(auto)]
 
 mod again;

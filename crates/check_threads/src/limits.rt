@@ -17,7 +17,7 @@ use std::thread;
 use std::thread::Threads;
 use std::time::Clock;
 
-/// A file gets a byte behind the last that it can have by the first limits.
+/// A file gets a byte after the last that it can have under the first limits.
 const CALLS: &[u8] = b"atomfs 2\nthread one\nmknod /f\nwrite /f 65536 00\nschedule\n";
 
 /// What the write answers by these limits.

@@ -16,7 +16,7 @@ use std::time::{Clock, Duration};
 
 const THREADS: usize = 8;
 
-/// Lets its caller sleep after it let a node go, so that others get in between while it stands below.
+/// Lets its caller sleep after it let a node go, so that others get in between while it is below.
 struct Lingers;
 
 impl Gate for Lingers {

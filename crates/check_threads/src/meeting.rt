@@ -24,7 +24,7 @@ fn number(done: &[Done], job: usize) -> Option<CallNo> {
     }
 }
 
-/// Whether of two jobs the one that returned last, which is the one that was held, committed behind the other's return.
+/// Whether of two jobs the one that returned last, which is the one that was held, committed after the other's return.
 fn are_apart(worked: &Worked) -> Option<bool> {
     let entries = worked.closed.timeline.entries();
     let one = number(&worked.did.done, 0)?;

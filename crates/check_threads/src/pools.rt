@@ -14,7 +14,7 @@ use std::sync::ledger::Blank;
 use std::thread::Threads;
 use std::time::Clock;
 
-/// Jobs that leave different things behind, so that one that is begun for another shows.
+/// Jobs that leave different things, so that one that is begun for another shows.
 const JOBS: &[u8] =
     b"atomfs 1\nthread jobs\nmkdir /a\nmkdir /b\nmknod /c\nmkdir /d\nmknod /e\nschedule\n";
 

@@ -1,10 +1,11 @@
-//! Checks what is not proved and what neither the program nor the library for C shows: `checks` runs each library of checks in
-//! turn, and `checks NAME` one of them. The gate runs the first, and compares what it writes with `stdout` beside `src/`, whose
-//! worked tables are there to be read. The libraries say what they check; `data/` has a folder for the one that reads files.
-//! `checks time observers READS` and, with a script on standard input, `checks time threads` time parts of AtomFS (`bench`).
-//! `checks time ended TIMES` makes renames behind so many sessions that have ended, `checks time sessions TIMES` the sessions alone;
-//! `run` and `pools` do the same with runs of a pool. `checks time writes CALLS` keeps calls that write, for a look at the memory;
-//! `scattered`, `appended` and `shared` fill a file of so many mebibytes in blocks.
+//! Checks what is not proved and what neither the program nor the library for C shows. `checks` runs each library of checks in turn, and
+//! `checks NAME` one of them. The gate runs the first, and compares its output with the file `stdout` beside `src/`, whose worked tables
+//! are there to be read. Each library says what it checks; `data/` has a folder for the one that reads files.
+//!
+//! `checks time observers READS` and, with a script on standard input, `checks time threads` time parts of AtomFS (`bench`). `checks time
+//! ended TIMES` makes renames after so many sessions have ended, and `checks time sessions TIMES` times the sessions alone. `run` and
+//! `pools` do the same with runs of a pool. `checks time writes CALLS` keeps calls that write, for a look at the memory. `scattered`,
+//! `appended` and `shared` fill a file of so many mebibytes in blocks.
 #![tactic(auto)]
 
 use anyhow::{Result, bail};
@@ -73,7 +74,7 @@ fn time<R: Print + Threads + Wait + Clock + Sync>(
     }
 }
 
-/// The words behind the name of the program.
+/// The words after the name of the program.
 fn words_once(rt: &HostRuntime) -> io::Result<Vec<String>> {
     let mut words = Vec::new(rt.alloc());
     for word in env::args(rt)?.skip(1) {

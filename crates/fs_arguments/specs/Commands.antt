@@ -1,5 +1,6 @@
 -- What the command line asks for.
-use Rattle.std.specs.Prelude.{ℕ, ◌≡◌, ◌≤◌, ◌<◌, ◌^◌, Bool, true, false, if◌then◌else◌, List, [], ◌++◌, map, Option, Some, None, codes}
+use Rattle.std.specs.Prelude.{ℕ, ◌≡◌, ◌≤◌, ◌<◌, ◌^◌, Bool, true, false, not, ◌&&◌, if◌then◌else◌, List, [], ◌++◌, map, Option, Some, None, codes}
+use Rattle.std.specs.Str.{bytes_eq}
 use Rattle.std.specs.Str.Parse.{IsNumeral, digits_value, without_leading_plus}
 use Rattle.clap.specs.Matches.{matched_of, one_text, raw_values}
 use Rattle.clap.specs.declared.parser.matches.Found.{Found}
@@ -15,6 +16,8 @@ use Rattle.fs_litmus.specs.Asserts.{word_of}
 use Rattle.fs_litmus.specs.declared.assertion.Quantifier.{Quantifier}
 use Rattle.fs_litmus.specs.declared.assertion.Quantifier.TheVariants.{Never, Always, Sometimes}
 use Rattle.fs_arguments.specs.declared.subcommand.Asserted.{Asserted}
+use Rattle.fs_arguments.specs.declared.subcommand.Color.{Color}
+use Rattle.fs_arguments.specs.declared.subcommand.Color.TheVariants as color
 use Rattle.fs_arguments.specs.declared.subcommand.Format.{Format}
 use Rattle.fs_arguments.specs.declared.subcommand.Format.TheVariants.{Text, Json}
 use Rattle.fs_arguments.specs.declared.subcommand.Subcommand.{Subcommand}
@@ -31,8 +34,8 @@ name_of (Shrink what) = codes "shrink"
 name_of (Tree schedule asked) = codes "tree"
 name_of (Threads journal) = codes "threads"
 name_of (Check format) = codes "check"
-name_of (Linearize histories limit) = codes "linearize"
-name_of (Trace schedule every) = codes "trace"
+name_of (Linearize histories limit recorded) = codes "linearize"
+name_of (Trace schedule every format) = codes "trace"
 name_of (Draw schedule drawing) = codes "draw"
 name_of (Schedule schedule) = codes "schedule"
 name_of (Explain first second) = codes "explain"
@@ -48,8 +51,8 @@ IsWithin (Shrink what) = Unit {0}
 IsWithin (Tree schedule asked) = Unit {0}
 IsWithin (Threads journal) = Unit {0}
 IsWithin (Check format) = Unit {0}
-IsWithin (Linearize histories limit) = (1 ≤ limit) × (limit ≤ CONFIGURATION_LIMIT)
-IsWithin (Trace schedule every) = Unit {0}
+IsWithin (Linearize histories limit recorded) = (1 ≤ limit) × (limit ≤ CONFIGURATION_LIMIT)
+IsWithin (Trace schedule every format) = Unit {0}
 IsWithin (Draw schedule drawing) = Unit {0}
 IsWithin (Schedule schedule) = Unit {0}
 IsWithin (Explain first second) = Unit {0}
@@ -80,6 +83,16 @@ IsFlagOf found id given = one_text found id ≡ Some (if given then codes "true"
 abbrev pub IsFormatOf : Found → Format → Type 0
 IsFormatOf found Text = IsFlagOf found (codes "json") false
 IsFormatOf found Json = IsFlagOf found (codes "json") true
+
+-- when there are colours, by the word that says so
+abbrev pub color_named : List ℕ → Color
+color_named word = if bytes_eq word (codes "always") then color.Always else (if bytes_eq word (codes "never") then color.Never else color.Auto)
+
+-- whether there are colours, on a terminal or not, where the environment asks for none or does not
+abbrev pub is_on : Color → Bool → Bool → Bool
+is_on color.Auto terminal no_color = terminal && not no_color
+is_on color.Always terminal no_color = true
+is_on color.Never terminal no_color = false
 
 -- what is written of the ends of runs
 abbrev pub IsFormOf : Found → Form → Type 0
@@ -119,6 +132,11 @@ IsShrink text other = ⊥
 abbrev pub ShrinksFor : List ℕ → Option Subcommand → Type 0
 ShrinksFor text (Some subcommand) = IsShrink text subcommand
 ShrinksFor text None = ⊥
+
+-- a trace of every event, or of those with news, is written so
+abbrev pub TracesSo : Bool → Format → Subcommand → Type 0
+TracesSo all wanted (Trace schedule every format) = (every ≡ all) × (format ≡ wanted)
+TracesSo all wanted other = ⊥
 
 -- the question that asks for the tree before the commit of this call
 abbrev pub AsksBefore : List ℕ → Asked → Type 0

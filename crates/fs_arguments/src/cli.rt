@@ -30,6 +30,7 @@ fn written<'a>(argument: Arg<'a>, name: &'static str, form: &Form) -> Arg<'a> {
             .long(name)
             .value_name(value)
             .value_parser(ValueParser::unsigned(*least, *most)),
+        Form::OneOf(value, words) => argument.long(name).value_name(value).value_parser(*words),
         Form::Kind => one_of_the_words(argument),
         Form::SecondKind => one_of_the_words(argument).hide_possible_values(true),
         Form::File => argument.value_name("FILE"),
@@ -137,7 +138,8 @@ fn asked_for<'a>(alloc: Global, matches: &ArgMatches<'a>) -> Result<Invocation<'
     }
 }
 
-/// The command that a word misses by one letter: one that is wrong, too many or not there, or that stands on its neighbour's place.
+/// The command that a word misses by one letter: a letter that is wrong, too many or missing, or two neighbours that
+/// are exchanged.
 fn meant(alloc: Global, word: &str, rows: &[Row]) -> Result<Option<&'static str>, AllocError> {
     for row in rows {
         if osa_distance(alloc, word, row.name)? == 1 {

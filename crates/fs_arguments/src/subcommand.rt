@@ -1,9 +1,9 @@
 //! What the command line asks for, read of what `clap` matched.
 
-ghost use Rattle.std.specs.Prelude.{◌≡◌, ◌≤◌, ◌++◌, ℕ, Bool, List, map, true, false, Some, None, IfSome, IfOk, OnOk, codes};
+ghost use Rattle.std.specs.Prelude.{◌≡◌, ◌≤◌, ◌++◌, ℕ, Bool, List, map, is_some, option_map, true, false, Some, None, IfSome, IfOk, OnOk, codes};
 ghost use Rattle.std.specs.Option.{ForSome};
 ghost use Rattle.clap.specs.Matches.{first_value, found_of, one_text, subcommand_name_of};
-ghost use Rattle.fs_arguments.specs.Commands.{AreNumbersOf, AsksBefore, AsksWho, IsFlagOf, IsFormOf, IsFormatOf, IsNumberOf, IsWithin, SearchesFor, ShrinksFor, all_said, name_of, said, said_by};
+ghost use Rattle.fs_arguments.specs.Commands.{AreNumbersOf, AsksBefore, AsksWho, IsFlagOf, IsFormOf, IsFormatOf, IsNumberOf, IsWithin, SearchesFor, ShrinksFor, TracesSo, all_said, color_named, is_on, name_of, said, said_by};
 ghost use Rattle.fs_explain.specs.Topics.{word_of};
 
 use clap::ArgMatches;
@@ -30,6 +30,28 @@ pub enum Histories {
     Many,
     /// Of one without an order the calls that show it.
     Core,
+}
+
+/// When words are written in colours.
+#[derive(Clone, Copy, Debug, PartialEq, Eq)]
+pub enum Color {
+    /// On a terminal, unless the environment asks for none.
+    Auto,
+    Always,
+    Never,
+}
+
+impl Color {
+    /// Whether there are colours, on a terminal or not, where the environment asks for none or does not.
+    pub fn is_on(self, terminal: bool, no_color: bool) -> bool
+        ensures { result ≡ is_on self terminal no_color }
+    {
+        match self {
+            Color::Auto => terminal && !no_color,
+            Color::Always => true,
+            Color::Never => false,
+        }
+    }
 }
 
 /// How what comes of a command is written.
@@ -71,16 +93,25 @@ pub enum Subcommand<'a> {
     Threads(bool),
     /// The verdict on a journal.
     Check(Format),
-    /// What is found of histories, where no more configurations are made than this.
-    Linearize(Histories, u64),
-    /// The events of a script's run by a schedule, in words; and whether each is told, or those alone that tell something new.
-    Trace(Schedule, bool),
+    /// What is found of histories, if no more configurations are made than this, and how they are read and kept.
+    Linearize(Histories, u64, Recorded<'a>),
+    /// The events of a script's run with a schedule; whether all of them, or only those that are news; and how they are written.
+    Trace(Schedule, bool, Format),
     /// What is drawn of a script's run by a schedule, or of a journal.
     Draw(Schedule, Drawing),
     /// A script again, with the events of its run by a schedule as its words.
     Schedule(Schedule),
     /// What one word of a message means, or two.
     Explain(Topic, Option<Topic>),
+}
+
+/// How histories are read, and where those are kept that are not lawful.
+#[derive(Clone, Copy, Debug, PartialEq, Eq)]
+pub struct Recorded<'a> {
+    /// The known tree, or the file with the table, that says what their tree replies.
+    pub dialect: Option<&'a str>,
+    /// The directory for those that are not lawful.
+    pub failing: Option<&'a str>,
 }
 
 /// What is asserted of drawn runs, in words.
@@ -95,10 +126,12 @@ pub struct Asserted<'a> {
 pub struct Invocation<'a> {
     /// What is asked for.
     pub command: Subcommand<'a>,
-    /// The file that is named behind it; `-` is the name of standard input.
+    /// The file that is named after it; `-` is the name of standard input.
     pub file: Option<&'a str>,
     /// What is asserted of the runs: that none has something, then that each has it, then that one has it.
     pub asserted: Vec<Asserted<'a>>,
+    /// When words are written in colours.
+    pub color: Color,
 }
 
 /// The number that the option with an identifier gives.
@@ -114,6 +147,30 @@ fn flag_given<'a>(matches: &ArgMatches<'a>, id: &str) -> bool
     ensures { (given : Bool) → IsFlagOf (found_of matches.now) id.now given → result ≡ given }
 {
     matches.get_flag(id)
+}
+
+/// When words are written in colours, by the word that says so.
+fn color_named(word: &[u8]) -> Color
+    ensures { result ≡ color_named word.now }
+{
+    if word == b"always".as_slice() {
+        Color::Always
+    } else if word == b"never".as_slice() {
+        Color::Never
+    } else {
+        Color::Auto
+    }
+}
+
+/// When words are written in colours.
+fn color_of<'a>(matches: &ArgMatches<'a>) -> Color
+    ensures given { (word : List ℕ) → first_value (found_of matches.now) (codes "color") ≡ Some word → result ≡ color_named word }
+    ensures auto { first_value (found_of matches.now) (codes "color") ≡ None → result ≡ Color.Auto }
+{
+    match matches.get_str("color") {
+        Some(word) => color_named(word.as_bytes()),
+        None => Color::Auto,
+    }
 }
 
 /// How what comes of a command is written.
@@ -307,6 +364,17 @@ fn asked_of<'a>(matches: &ArgMatches<'a>) -> Asked<'a>
     }
 }
 
+/// What is written of a run's events.
+fn trace_of<'a>(matches: &ArgMatches<'a>) -> Subcommand<'a>
+    ensures within { IsWithin result }
+    ensures name { name_of result ≡ codes "trace" }
+    ensures asked { (every : Bool) (format : Format) → IsFlagOf (found_of matches.now) (codes "every") every → IsFormatOf (found_of matches.now) format
+        → TracesSo every format result }
+{
+    let every = flag_given(matches, "every");
+    Subcommand::Trace(schedule_of(matches), every, format_of(matches))
+}
+
 /// What is drawn.
 fn drawing_of<'a>(matches: &ArgMatches<'a>) -> Drawing
     ensures page { IsFlagOf (found_of matches.now) (codes "html") true → result ≡ Drawing.Page }
@@ -341,6 +409,29 @@ fn histories_of<'a>(matches: &ArgMatches<'a>) -> Histories
     Histories::Whole
 }
 
+/// How histories are read, and where those are kept that are not lawful.
+fn recorded_of<'a>(matches: &ArgMatches<'a>) -> Recorded<'a>
+    ensures dialect { option_map (λ word. word.now) result.dialect ≡ first_value (found_of matches.now) (codes "as") }
+    ensures failing { option_map (λ word. word.now) result.failing ≡ first_value (found_of matches.now) (codes "failing") }
+{
+    Recorded {
+        dialect: matches.get_str("as"),
+        failing: matches.get_str("failing"),
+    }
+}
+
+/// What is written of histories: those of which some are kept are read as many.
+fn read_as(histories: Histories, failing: Option<&str>) -> Histories
+    ensures many { is_some failing.entry ≡ true → result ≡ Histories.Many }
+    ensures same { is_some failing.entry ≡ false → result ≡ histories }
+{
+    if failing.is_some() {
+        Histories::Many
+    } else {
+        histories
+    }
+}
+
 /// The limit of a search. `clap` has read it within its range, and here it is looked at once more.
 fn limit_of<'a>(matches: &ArgMatches<'a>) -> Option<Subcommand<'a>>
     ensures within { ForSome result IsWithin }
@@ -353,7 +444,9 @@ fn limit_of<'a>(matches: &ArgMatches<'a>) -> Option<Subcommand<'a>>
     if limit < 1 || limit > CONFIGURATION_LIMIT {
         return None;
     }
-    Some(Subcommand::Linearize(histories_of(matches), limit))
+    let recorded = recorded_of(matches);
+    let histories = read_as(histories_of(matches), recorded.failing);
+    Some(Subcommand::Linearize(histories, limit, recorded))
 }
 
 /// The topic that the argument with an identifier names, if it is given.
@@ -372,7 +465,7 @@ fn topics_of<'a>(matches: &ArgMatches<'a>) -> Option<Subcommand<'a>>
     Some(Subcommand::Explain(first, topic_given(matches, "second")))
 }
 
-/// The subcommand of a name, by what was matched behind it.
+/// The subcommand of a name, by what was matched after it.
 fn named<'a>(name: &str, given: &ArgMatches<'a>) -> Option<Subcommand<'a>>
     ensures within { ForSome result IsWithin }
     ensures name { IfSome result (λ command. name_of command ≡ name.now) }
@@ -387,7 +480,7 @@ fn named<'a>(name: &str, given: &ArgMatches<'a>) -> Option<Subcommand<'a>>
         "threads" => Some(Subcommand::Threads(given.get_flag("journal"))),
         "check" => Some(Subcommand::Check(format_of(given))),
         "linearize" => limit_of(given),
-        "trace" => Some(Subcommand::Trace(schedule_of(given), given.get_flag("every"))),
+        "trace" => Some(trace_of(given)),
         "draw" => Some(Subcommand::Draw(schedule_of(given), drawing_of(given))),
         "schedule" => Some(Subcommand::Schedule(schedule_of(given))),
         "explain" => topics_of(given),
@@ -414,5 +507,6 @@ pub(crate) fn invocation_of<'a>(
         command,
         file: given.get_str("file"),
         asserted,
+        color: color_of(given),
     }))
 }

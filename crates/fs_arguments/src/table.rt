@@ -1,4 +1,4 @@
-//! The table of the commands and their arguments, which `cli` tells `clap`.
+//! The table of the commands and their arguments, which `cli` hands to `clap`.
 
 use crate::texts::*;
 use fs_find::SEARCH_LIMIT;
@@ -16,11 +16,13 @@ pub(crate) enum Form {
     Texts(&'static str),
     /// `--NAME` and a number, which help calls by this word, from the least to the most.
     Number(&'static str, u64, u64),
+    /// `--NAME` and one of these words, which help lists and calls by this word.
+    OneOf(&'static str, &'static [&'static str]),
     /// A word that can be explained; help lists them.
     Kind,
     /// One more such word, for which help lists nothing.
     SecondKind,
-    /// The name of a file, behind the command.
+    /// The name of a file, after the command.
     File,
 }
 
@@ -44,7 +46,7 @@ pub(crate) struct Argument {
     pub(crate) help: &'static str,
 }
 
-/// A command, with its arguments as help has them one behind the other.
+/// A command, with its arguments in the order in which help has them.
 pub(crate) struct Row {
     pub(crate) name: &'static str,
     pub(crate) about: &'static str,
@@ -64,7 +66,7 @@ pub(crate) const SEARCHES: &[Row] = &[FIND, SHRINK, TREE];
 /// Those that say whether what was done is lawful.
 pub(crate) const VERDICTS: &[Row] = &[THREADS, CHECK, LINEARIZE];
 
-/// Those that tell a run in another form, or what a word means.
+/// Those that write a run in another form, or what a word means.
 pub(crate) const ACCOUNTS: &[Row] = &[TRACE, DRAW, SCHEDULE, EXPLAIN];
 
 const FILE: Argument = Argument {
@@ -72,7 +74,7 @@ const FILE: Argument = Argument {
     form: Form::File,
     need: Need::Never,
     conflicts: &[],
-    help: "The file that is read, or `-` for standard input, which is read where it is left out",
+    help: "The file that is read. Without it, or with `-`, standard input is read",
 };
 
 const ROBIN: Argument = Argument {
@@ -88,7 +90,7 @@ const SEED: Argument = Argument {
     form: Form::Number("N", 0, u64::MAX),
     need: Need::Never,
     conflicts: &["robin"],
-    help: "Threads drawn from N, 0 to 18446744073709551615, as `atomfs seeds` draws them",
+    help: "Random threads with the seed N, 0 to 18446744073709551615, as `atomfs seeds` draws them",
 };
 
 const FIRST_SEED: Argument = Argument {
@@ -96,7 +98,7 @@ const FIRST_SEED: Argument = Argument {
     form: Form::Number("N", 0, SEED_LIMIT),
     need: Need::Always,
     conflicts: &[],
-    help: "The number that the first run is drawn from, 0 to 9223372036854775807",
+    help: "The seed of the first run, 0 to 9223372036854775807",
 };
 
 const JSON: Argument = Argument {
@@ -107,12 +109,20 @@ const JSON: Argument = Argument {
     help: "Writes objects of JSON, one a line",
 };
 
+const COLOR: Argument = Argument {
+    name: "color",
+    form: Form::OneOf("WHEN", &["auto", "always", "never"]),
+    need: Need::Never,
+    conflicts: &[],
+    help: "When words are in colours. Without it, or with auto, on a terminal, unless NO_COLOR is set",
+};
+
 const WHERE: Argument = Argument {
     name: "where",
     form: Form::Text("WHAT"),
     need: Need::Always,
     conflicts: &[],
-    help: "What the run is to have, as below",
+    help: "What the run has to have, as below",
 };
 
 const NEVER: Argument = Argument {
@@ -120,7 +130,7 @@ const NEVER: Argument = Argument {
     form: Form::Texts("WHAT"),
     need: Need::Never,
     conflicts: &["add"],
-    help: "Status 1 if a run has WHAT, which is as for `atomfs find`. This option and the two below may be given several times",
+    help: "Status 1 if a run has WHAT, which `atomfs help find` explains. This option and the two below may be given several times",
 };
 
 const ALWAYS: Argument = Argument {
@@ -128,7 +138,7 @@ const ALWAYS: Argument = Argument {
     form: Form::Texts("WHAT"),
     need: Need::Never,
     conflicts: &["add"],
-    help: "Status 1 if a run has WHAT not",
+    help: "Status 1 if a run does not have WHAT",
 };
 
 const SOMETIMES: Argument = Argument {
@@ -154,13 +164,14 @@ const RUN: Row = Row {
             conflicts: &[],
             help: "Starts at the tree in the file TREE: a tree text, or the start tree of a journal",
         },
+        COLOR,
         FILE,
     ],
 };
 
 const SEEDS: Row = Row {
     name: "seeds",
-    about: "Runs a script by drawn schedules, checks each run's journal and writes a line for each",
+    about: "Runs a script with random schedules, checks the journal of each run and writes a line for each",
     usage: "atomfs seeds --seed <N> --runs <K> [OPTIONS] [FILE]",
     statuses: SEEDS_STATUSES,
     arguments: &[
@@ -170,16 +181,17 @@ const SEEDS: Row = Row {
             form: Form::Number("K", 1, RUN_LIMIT),
             need: Need::Always,
             conflicts: &[],
-            help: "How many runs, drawn from N, N + 1, and so on, 1 to 10000",
+            help: "How many runs, with the seeds N, N + 1, and so on, 1 to 10000",
         },
         JSON,
+        COLOR,
         FILE,
     ],
 };
 
 const OUTCOMES: Row = Row {
     name: "outcomes",
-    about: "Runs a script by drawn schedules and writes a line for each different end, and how often it came",
+    about: "Runs a script with random schedules and writes a line for each different end, and how often it came",
     usage: "atomfs outcomes <--seed <N> --runs <K>|--add> [OPTIONS] [FILE]",
     statuses: OUTCOMES_STATUSES,
     arguments: &[
@@ -188,47 +200,48 @@ const OUTCOMES: Row = Row {
             form: Form::Number("N", 0, SEED_LIMIT),
             need: Need::Unless("add"),
             conflicts: &["add"],
-            help: "The number that the first run is drawn from, 0 to 9223372036854775807",
+            help: "The seed of the first run, 0 to 9223372036854775807",
         },
         Argument {
             name: "runs",
             form: Form::Number("K", 1, OUTCOME_LIMIT),
             need: Need::Unless("add"),
             conflicts: &["add"],
-            help: "How many runs, drawn from N, N + 1, and so on, 1 to 1000000",
+            help: "How many runs, with the seeds N, N + 1, and so on, 1 to 1000000",
         },
         Argument {
             name: "trees",
             form: Form::Flag,
             need: Need::Never,
             conflicts: &["add"],
-            help: "Behind each line its tree",
+            help: "Writes the tree of each line after it",
         },
         Argument {
             name: "all",
             form: Form::Flag,
             need: Need::Never,
             conflicts: &[],
-            help: "The replies of all calls, not only of those that differ",
+            help: "Writes the replies of all calls, not only of those that differ",
         },
         Argument {
             name: "add",
             form: Form::Flag,
             need: Need::Never,
             conflicts: &[],
-            help: "Reads lines that pieces of a range of numbers wrote with --all, and adds them up",
+            help: "Reads lines that --all wrote for pieces of a range of seeds, and adds them up",
         },
         NEVER,
         ALWAYS,
         SOMETIMES,
         JSON,
+        COLOR,
         FILE,
     ],
 };
 
 const FIND: Row = Row {
     name: "find",
-    about: "Runs a script by drawn schedules up to the first run that has WHAT, and writes the script with the events of that run as its schedule",
+    about: "Finds the first random run of a script that has WHAT, and writes the script with the events of that run as its schedule",
     usage: "atomfs find --where <WHAT> --seed <N> --runs <K> [OPTIONS] [FILE]",
     statuses: FIND_STATUSES,
     arguments: &[
@@ -239,7 +252,7 @@ const FIND: Row = Row {
             form: Form::Number("K", 1, SEARCH_LIMIT),
             need: Need::Always,
             conflicts: &[],
-            help: "The most runs, drawn from N, N + 1, and so on, 1 to 1000000",
+            help: "At most so many runs, with the seeds N, N + 1, and so on, 1 to 1000000",
         },
         JSON,
         FILE,
@@ -256,7 +269,7 @@ const SHRINK: Row = Row {
 
 const TREE: Row = Row {
     name: "tree",
-    about: "Reads a journal, or runs a script, and writes the tree that its commits make, or who changed what stands at a path",
+    about: "Reads a journal, or runs a script, and writes the tree that its commits make, or the commit that last changed what is at a path",
     usage: "atomfs tree [OPTIONS] [FILE]",
     statuses: TREE_STATUSES,
     arguments: &[
@@ -265,7 +278,7 @@ const TREE: Row = Row {
             form: Form::Number("N", 0, u64::MAX),
             need: Need::Never,
             conflicts: &[],
-            help: "The tree behind the first N commits, in place of all",
+            help: "The tree after the first N commits, in place of all",
         },
         Argument {
             name: "before",
@@ -279,7 +292,7 @@ const TREE: Row = Row {
             form: Form::Text("PATH"),
             need: Need::Never,
             conflicts: &["at", "before"],
-            help: "The commit that last changed what stands at PATH, in place of a tree",
+            help: "The commit that last changed what is at PATH, in place of a tree",
         },
         ROBIN,
         SEED,
@@ -289,7 +302,7 @@ const TREE: Row = Row {
 
 const THREADS: Row = Row {
     name: "threads",
-    about: "Runs each thread of a script on a real thread, its schedule unused, and writes `lawful calls` and their number, or a fault",
+    about: "Runs each thread of a script on a real thread, without its schedule, and writes `lawful calls` and their number, or a fault",
     usage: "atomfs threads [OPTIONS] [FILE]",
     statuses: THREADS_STATUSES,
     arguments: &[
@@ -298,8 +311,9 @@ const THREADS: Row = Row {
             form: Form::Flag,
             need: Need::Never,
             conflicts: &[],
-            help: "Writes their journal in place of the line",
+            help: "Writes the journal of their calls in place of the line",
         },
+        COLOR,
         FILE,
     ],
 };
@@ -309,7 +323,7 @@ const CHECK: Row = Row {
     about: "Reads a journal and writes `lawful`, or the place and the kind of its first fault",
     usage: "atomfs check [OPTIONS] [FILE]",
     statuses: CHECK_STATUSES,
-    arguments: &[JSON, FILE],
+    arguments: &[JSON, COLOR, FILE],
 };
 
 const LINEARIZE: Row = Row {
@@ -323,36 +337,51 @@ const LINEARIZE: Row = Row {
             form: Form::Flag,
             need: Need::Never,
             conflicts: &[],
-            help: "With `none` the journal up to that return, for `atomfs draw`",
+            help: "In place of `none`, writes the journal up to that return, for `atomfs draw`",
         },
         Argument {
             name: "many",
             form: Form::Flag,
             need: Need::Never,
             conflicts: &["front"],
-            help: "Histories one after the other, each begun by its header line: a line for each, and counts",
+            help: "Reads several histories, each with its header line, and writes a line for each, and counts",
         },
         Argument {
             name: "core",
             form: Form::Flag,
             need: Need::Never,
             conflicts: &["front", "many"],
-            help: "Of a history without an order the history of the calls that show it, of which none can go",
+            help: "If a history has no order, writes the history of the calls that show it, of which none can go",
+        },
+        Argument {
+            name: "as",
+            form: Form::Text("TREE"),
+            need: Need::Never,
+            conflicts: &[],
+            help: "Reads each error that is returned by the table of TREE, as below",
+        },
+        Argument {
+            name: "failing",
+            form: Form::Text("DIR"),
+            need: Need::Never,
+            conflicts: &["front", "core"],
+            help: "As --many, and writes each history that is not lawful to a file of its own in DIR",
         },
         Argument {
             name: "limit",
             form: Form::Number("N", 1, CONFIGURATION_LIMIT),
             need: Need::Never,
             conflicts: &[],
-            help: "The most configurations of the search, 1 to 1000000000, or else 10000000",
+            help: "At most so many configurations in the search, 1 to 1000000000; without this option 10000000",
         },
+        COLOR,
         FILE,
     ],
 };
 
 const TRACE: Row = Row {
     name: "trace",
-    about: "Runs a script and writes what each event did, in words, or reads a journal and tells its entries",
+    about: "Runs a script and writes in words what each event did, or reads a journal and writes its entries in words",
     usage: "atomfs trace [OPTIONS] [FILE]",
     statuses: TRACE_STATUSES,
     arguments: &[
@@ -363,8 +392,16 @@ const TRACE: Row = Row {
             form: Form::Flag,
             need: Need::Never,
             conflicts: &[],
-            help: "A line for each event, idle turns and repeated waits among them",
+            help: "Writes a line for each event, also for idle turns and repeated waits",
         },
+        Argument {
+            name: "json",
+            form: Form::Flag,
+            need: Need::Never,
+            conflicts: &[],
+            help: "Writes objects of JSON, one a line, in place of words; for a script alone",
+        },
+        COLOR,
         FILE,
     ],
 };
@@ -407,7 +444,7 @@ const SCHEDULE: Row = Row {
             form: Form::Number("N", 0, u64::MAX),
             need: Need::Unless("robin"),
             conflicts: &["robin"],
-            help: "Threads drawn from N, 0 to 18446744073709551615, as `atomfs seeds` draws them",
+            help: "Random threads with the seed N, 0 to 18446744073709551615, as `atomfs seeds` draws them",
         },
         FILE,
     ],

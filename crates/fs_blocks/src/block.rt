@@ -74,7 +74,8 @@ fn copied(bytes: &[u8], buffers: &mut Buffers) -> Vec<u8>
     copy
 }
 
-/// Puts bytes over those of a vector from an offset on, and behind them what is more; a gap is filled with zeros.
+/// Puts bytes over those of a vector from an offset on, and adds those that are more after them; a gap is filled with
+/// zeros.
 fn put_over(content: &mut Vec<u8>, off: usize, bytes: &[u8])
     requires room { off + length bytes.now ≤ vec_capacity content.old }
     ensures { content.new.items ≡ written content.old.items off bytes.now }
@@ -127,8 +128,8 @@ impl Block {
         }
     }
 
-    /// Puts bytes over those from an offset on; a gap is filled with zeros. Bytes that are shared stay as they are. The block shares
-    /// the new ones, if they may be shared, where it begins with them and nothing is left behind them.
+    /// Puts bytes over those from an offset on; a gap is filled with zeros. Bytes that are shared stay as they are. The
+    /// block shares the new ones, if they may be shared, it begins with them, and nothing is left after them.
     pub fn write(&mut self, off: usize, bytes: Piece<'_>, buffers: &mut Buffers)
         requires most { off + length bytes ≤ BLOCK }
         requires buffer { 0 < buffers.old }

@@ -275,8 +275,9 @@ impl File {
         self.put(off, Piece::plain(bytes), spare);
     }
 
-    /// The same of bytes that others share. A block shares its part of them where that begins the block, leaves nothing of it
-    /// behind, and is at least a sixteenth of all: so it keeps no more than sixteen times its own bytes alive.
+    /// The same with bytes that others share. A block shares its part of them if that begins the block, leaves nothing
+    /// of the block after it, and is at least a sixteenth of all. So it keeps no more than sixteen times its own bytes
+    /// alive.
     pub fn take(&mut self, off: usize, bytes: &Arc<Vec<u8>>, spare: Spare)
         requires form { IsTrue self.old.in_blocks }
         requires some { 0 < length (arc_value bytes.now).items }

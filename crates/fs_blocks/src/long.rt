@@ -130,7 +130,7 @@ fn put_first(first: &mut Block, off: usize, bytes: Piece<'_>, buffers: &mut Buff
     first.write(off, bytes, buffers);
 }
 
-/// Puts bytes that begin behind the first block.
+/// Puts bytes that begin after the first block.
 fn put_rest(
     chunks: &mut Vec<Chunk>,
     off: usize,
@@ -156,7 +156,7 @@ fn put_rest(
     put_all(chunks, at, bytes, rooms, buffers);
 }
 
-/// Leaves no bytes behind the first block from a place on.
+/// Leaves no bytes after the first block from a place on.
 fn cut_rest(chunks: &mut Vec<Chunk>, size: usize, buffers: &mut Buffers)
     requires { 0 < buffers.old }
     ensures { Cuts (byte_of_rest chunks.old.items) (byte_of_rest chunks.new.items) size }
@@ -181,7 +181,7 @@ fn cut(first: &mut Block, chunks: &mut Vec<Chunk>, size: usize, buffers: &mut Bu
     first.cut(size, buffers);
 }
 
-/// The same of bytes of which none is left behind this length.
+/// The same for bytes of which none is left after this length.
 fn shorten(
     first: &mut Block,
     chunks: &mut Vec<Chunk>,
@@ -198,7 +198,7 @@ fn shorten(
     }
 }
 
-/// The bytes of the block of a number, those behind the first one.
+/// The bytes of the block of a number, among those after the first one.
 fn block_behind(chunks: &[Chunk], number: usize) -> &[u8]
     ensures bytes { (i : ℕ) → i < BLOCK → byte_of_rest chunks.now (number * BLOCK + i) ≡ slice_index result.now i }
     ensures most { length result.now ≤ BLOCK }
@@ -342,7 +342,7 @@ impl Long {
     }
 }
 
-/// Lets copies share the blocks between two numbers, those behind the first block.
+/// Lets copies share the blocks between two numbers, among those after the first block.
 fn share_rest(chunks: &mut Vec<Chunk>, alloc: Global, from: usize, to: usize)
     ensures { chunks.new.items ≡ chunks.old.items }
 {

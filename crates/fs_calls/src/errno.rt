@@ -8,13 +8,13 @@ ghost use Rattle.fs_calls.specs.Replies.{number_of};
 pub enum Errno {
     /// A name on the way does not exist.
     Enoent = 1,
-    /// A directory is needed, and a file stands there.
+    /// A directory is needed, and a file is there.
     Enotdir = 2,
     /// The name exists already.
     Eexist = 3,
     /// The directory has entries.
     Enotempty = 4,
-    /// A file is needed, and a directory stands there.
+    /// A file is needed, and a directory is there.
     Eisdir = 5,
     /// A directory would be moved below itself.
     Einval = 6,

@@ -7,8 +7,8 @@ pub fn errors_change_nothing()
     ensures { ErrorsChangeNothing }
 {}
 
-/// After each call a tree is a tree: its keys are in order, the root is a directory, and what is not the root stands
-/// in a directory.
+/// After each call a tree is a tree: its keys are in order, the root is a directory, and what is not the root is in a
+/// directory.
 pub fn stays_a_tree()
     ensures { StaysATree }
 {}
@@ -19,7 +19,7 @@ pub fn played_trees_are_trees()
     ensures { PlayedTreesAreTrees }
 {}
 
-/// Two trees in which the same stands at each key are one.
+/// Two trees that have the same at each key are one.
 pub fn same_trees()
     ensures { SameTrees }
 {}
@@ -36,7 +36,7 @@ pub fn exchanges_swap()
     ensures { ExchangesSwap }
 {}
 
-/// The pieces of a list of a directory, one behind the other from the root on, are its names as far as they reach.
+/// The pieces of a list of a directory, one after the other from the root on, are its names as far as they reach.
 pub fn pieces_are_all()
     ensures { PiecesAreAll }
 {}

@@ -1,11 +1,12 @@
 //! Calls and replies, and what they mean: the definitions of the tree, with one table of errors, replies and changes.
 //!
-//! A `Call` is one of the twelve calls with its paths; `Call::target` tells what it looks at: a node, an entry, or two entries.
-//! A `Reply` is what it answers. Both hold no bare vector, so that two that say the same are equal in a contract.
-//! The crate has no tree that runs: it says what one has to answer. `specs/Tree.antt` is the tree as a sorted list,
-//! `specs/Rows.antt` the table, `specs/Outcomes.antt` reads a tree and answers by it (`reply`, `after`), by a set
-//! of limits; `play` goes on from a `Start`, which has the limits beside the tree. A `Call` has no limit in it.
-//! The module `laws` has what holds of these definitions, `examples` has worked rows that the check computes.
+//! A `Call` is one of the twelve calls with its paths. `Call::target` answers what it looks at: a node, an entry, or two entries. A
+//! `Reply` is what it answers. Both hold no bare vector, so that two that say the same are equal in a contract.
+//!
+//! The crate has no tree that runs: it says what such a tree has to answer. `specs/Tree.antt` is the tree as a sorted list, and
+//! `specs/Rows.antt` the table. `specs/Outcomes.antt` reads a tree and answers with the table (`reply`, `after`) under a set of limits.
+//! `play` goes on from a `Start`, which has the limits beside the tree. A `Call` has no limit in it. The module `laws` has what holds of
+//! these definitions, and `examples` has worked rows that the check computes.
 #![tactic(auto)]
 
 pub mod call;

@@ -1,5 +1,5 @@
-//! Ranges of a file's bytes: what a read answers of them, and what a write puts over. And the comparisons with
-//! the limits of files and directories, which stand here and nowhere else.
+//! Ranges of a file's bytes: what a read answers of them, and what a write puts over. The comparisons with the limits
+//! of files and directories are here too, and nowhere else.
 
 ghost use Rattle.std.specs.Prelude.{◌≡◌, ◌≤◌, ◌+◌, ◌++◌, take, drop, length, nat_le};
 

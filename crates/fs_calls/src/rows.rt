@@ -1,4 +1,4 @@
-//! The rows of errors, by what is seen where a call stands: the table's last column, which decides for every tree.
+//! The rows of errors, by what is seen at the place of a call: the table's last column, which decides for every tree.
 
 ghost use Rattle.std.specs.Prelude.{◌≡◌, List, Option, Some, None, if◌then◌else◌, length};
 ghost use Rattle.fs_names.specs.Names.{Name};
@@ -18,7 +18,7 @@ use crate::ranges::{fits, fits_size};
 use crate::target::{EntryCall, NodeCall, PairCall};
 use fs_names::{LIST_LIMIT, Limits};
 
-/// What a row of errors asks of a place: what stands there.
+/// What a row of errors asks of a place: what is there.
 #[derive(Clone, Copy, Debug, PartialEq, Eq)]
 pub enum Sight {
     /// No node.
@@ -119,7 +119,7 @@ macro_rules! entry_errors {
 }
 
 impl EntryCall {
-    /// The error of a call on an entry, by what stands there and by whether its directory has all entries that it can have.
+    /// The error of a call on an entry, by what is there and by whether its directory has all entries that it can have.
     pub fn error(self, there: Sight, full: bool) -> Option<Errno>
         ensures { (limits : Limits) (dir s : Option Shape) → full ≡ is_full (entry_limit limits) dir → sight s ≡ there → result ≡ first_failure (entry_errors (entry_call limits self) dir s) }
     {
@@ -130,9 +130,9 @@ impl EntryCall {
 /// What the row of a call on two entries asks.
 #[derive(Clone, Copy, Debug, PartialEq, Eq)]
 pub struct PairSight {
-    /// What stands at the first path.
+    /// What is at the first path.
     pub first: Sight,
-    /// What stands at the second path.
+    /// What is at the second path.
     pub second: Sight,
     /// Whether both paths are one.
     pub same_path: bool,
@@ -196,7 +196,7 @@ macro_rules! node_errors {
 }
 
 impl NodeCall<'_> {
-    /// The error of a call on a node by these limits, by what stands there.
+    /// The error of a call on a node under these limits, by what is there.
     pub fn error(self, limits: Limits, there: Sight) -> Option<Errno>
         ensures { (s : Option Shape) → sight s ≡ there → result ≡ node_fault (node_call limits self.entry) None s }
     {

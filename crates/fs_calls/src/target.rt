@@ -39,13 +39,13 @@ pub enum PairCall {
 /// What is done to a node.
 #[derive(Clone, Copy, Drop)]
 pub enum NodeCall<'a> {
-    /// Its kind and size are told.
+    /// Its kind and size are asked for.
     Stat,
-    /// Its names are told.
+    /// Its names are asked for.
     Readdir,
-    /// Its names above a path's last name are told, no more than a count.
+    /// Its names above a path's last name are asked for, no more than a count.
     ListAfter(&'a Path, u32),
-    /// Bytes from an offset on are told, no more than a count.
+    /// Bytes from an offset on are asked for, no more than a count.
     Read(u64, u64),
     /// Bytes are written at an offset.
     Write(u64, &'a Data),

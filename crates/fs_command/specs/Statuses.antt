@@ -2,6 +2,9 @@
 use Rattle.std.specs.List.{list_any}
 use Rattle.std.specs.Prelude.{ℕ, List, Bool, ◌==◌, if◌then◌else◌, Result, Ok, Err, Option, Some, None}
 use Rattle.std.specs.Global.{Vec}
+use Rattle.fs_dialects.specs.declared.fault.DialectFault.{DialectFault}
+use Rattle.fs_dialects.specs.declared.fault.TableFault.{TableFault}
+use Rattle.fs_dialects.specs.declared.fault.TableFault.TheVariants as table
 use Rattle.fs_sched.specs.declared.running.RunEnd.{RunEnd}
 use Rattle.fs_sched.specs.Faults.{status_of_fault}
 use Rattle.fs_verdict.specs.declared.checking.Checked.{Checked}
@@ -61,7 +64,7 @@ status_of_linearized (Err fault) = status_of_fault fault
 -- success where the calls are written that show that a history has no order, 4 where the limit was reached, else 1
 abbrev pub status_of_minimized : Result Minimized RunFault → ℕ
 status_of_minimized (Ok (minimized.Core calls all trials)) = 0
-status_of_minimized (Ok minimized.Lawful) = 1
+status_of_minimized (Ok minimized.Lawful) = 2
 status_of_minimized (Ok (minimized.Fault place kind)) = 1
 status_of_minimized (Ok (minimized.Unknown place)) = 4
 status_of_minimized (Err fault) = status_of_fault fault
@@ -74,6 +77,15 @@ has_status status outcomes = list_any (λ o. status_of_outcome o == status) outc
 abbrev pub status_of_outcomes : List Outcome → ℕ
 status_of_outcomes outcomes = if has_status 1 outcomes then 1 else (if has_status 4 outcomes then 4 else 0)
 
+-- the status of a text that is no table of errors: 3, or 4 where there is no memory
+abbrev pub status_of_table_fault : TableFault → ℕ
+status_of_table_fault table.OutOfMemory = 4
+status_of_table_fault k = 3
+
+abbrev pub status_of_table : DialectFault → ℕ
+status_of_table fault = status_of_table_fault fault.kind
+
+-- the status that histories came to
 abbrev pub status_of_many : Result Histories RunFault → ℕ
 status_of_many (Ok told) = status_of_outcomes told.outcomes.items
 status_of_many (Err fault) = status_of_fault fault

@@ -1,13 +1,11 @@
 //! What the program `atomfs` answers to whoever started it.
 //!
-//! `status_of_run`, `status_of_verdict` and `report` tell the exit status of what a subcommand
-//! came to; the message of a fault goes to standard error. A `Kept` source keeps what it gave, so that the message of a fault of
-//! the text shows the line. `Line` and `SharedLine` tell on a terminal, the `Screen`, how far a command
-//! is; an `Erasing` sink takes that away before the first byte of output. `Input` is standard input, or a file. Nothing here runs a
-//! script. What is
-//! asked for is in `fs_arguments`.
+//! `status_of_run`, `status_of_verdict` and `report` answer the exit status for the result of a subcommand. The message of a fault goes to
+//! standard error. A `Kept` source keeps what it gave, so that the message of a fault of the text shows the line. On a terminal
+//! (`Screen`), `Line` and `SharedLine` show how far a command is. An `Erasing` sink removes that before the first byte of output. `Input`
+//! is standard input, or a file.
 //!
-//! The definitions are in `specs/`: `Statuses` (the exit statuses).
+//! Nothing here runs a script. What is asked for is in `fs_arguments`. The exit statuses are defined in `specs/Statuses.antt`.
 #![tactic(auto)]
 
 pub mod input;
@@ -21,6 +19,7 @@ pub use seen::{Kept, Seen};
 pub use status::{
     report, report_asserted, report_check, report_draw, report_fault, report_file, report_find,
     report_from, report_linearize, report_many, report_minimized, report_picture, report_schedule,
-    report_shrink, report_trace, report_tree, report_unopened, report_words, status_of_run,
-    status_of_unreadable_args, status_of_usage, status_of_verdict, tell_reading,
+    report_shrink, report_table, report_trace, report_tree, report_unopened, report_unwritten,
+    report_words, status_of_run, status_of_unreadable_args, status_of_usage, status_of_verdict,
+    tell_reading,
 };

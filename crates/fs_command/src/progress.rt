@@ -1,4 +1,5 @@
-//! How far a command is, told on a terminal: one line, which is written anew in its place, and erased before anything else is written.
+//! How far a command is, as a terminal shows it: one line, which is written anew in its place, and erased before
+//! anything else is written.
 
 ghost use Rattle.std.specs.Prelude.{◌≡◌};
 
@@ -221,7 +222,7 @@ impl<'a, C: Clock> Line<'a, C> {
         Some(gone)
     }
 
-    /// Shows how much is done of what, behind how many events that took.
+    /// Shows how much is done of what, after how many events.
     fn show(&mut self, share: Share, what: &[u8]) {
         let mut words = Addition::new(Vec::new(self.screen.alloc));
         let made = if self.events > 0 {
@@ -308,7 +309,7 @@ impl<'a, C: Clock> Progress for Line<'a, C> {
     }
 }
 
-/// How far threads are. Each tells of its own calls; whoever finds it time shows the line.
+/// How far threads are. Each reports its own calls; whoever finds it time shows the line.
 #[derive(Drop)]
 pub struct SharedLine<'a> {
     screen: &'a Screen,

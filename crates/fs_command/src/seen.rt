@@ -18,10 +18,10 @@ use std::alloc::{AllocError, Global};
 /// The most columns of a line that are shown.
 const WIDTH: usize = 80;
 
-/// More bytes than are said of a fault behind its line and its kind.
+/// More bytes than are said of a fault after its line and its kind.
 const MOST: usize = 512;
 
-/// What stands in place of the rest of a line.
+/// What is written in place of the rest of a line.
 const REST: &[u8] = b"...";
 
 const DIGITS: &[u8; 16] = b"0123456789abcdef";
@@ -82,8 +82,8 @@ impl Seen {
         None
     }
 
-    /// What a message says behind this fault of the text: its line, what the text is where its first line is another than it has to
-    /// be, and which word to have explained. Without memory it says nothing.
+    /// What a message says after this fault of the text: its line, and which word to have explained. If its first line
+    /// is another than it has to be, the message also says what the text is. Without memory it says nothing.
     pub(crate) fn about(&self, fault: ScriptFault, is_tree: bool) -> Vec<u8> {
         match self.lines_about(fault, is_tree) {
             Ok(lines) => lines,

@@ -3,13 +3,14 @@
 ghost use Rattle.std.specs.Prelude.{◌≡◌, ◌≢◌, ◌⊎◌};
 ghost use Rattle.std.specs.IoError.{error_kind};
 ghost use Rattle.clap.specs.Values.{kind_of};
-ghost use Rattle.fs_command.specs.Statuses.{has_status, status_of, status_of_asserted, status_of_checked, status_of_drawn, status_of_found, status_of_linearized, status_of_many, status_of_minimized, status_of_outcome, status_of_outcomes, status_of_replayed, status_of_run, status_of_scheduled, status_of_shrunk, status_of_started, status_of_traced, status_of_verdict, status_of_words};
+ghost use Rattle.fs_command.specs.Statuses.{has_status, status_of, status_of_asserted, status_of_checked, status_of_drawn, status_of_found, status_of_linearized, status_of_many, status_of_minimized, status_of_outcome, status_of_outcomes, status_of_replayed, status_of_run, status_of_scheduled, status_of_shrunk, status_of_started, status_of_table, status_of_traced, status_of_verdict, status_of_words};
 ghost use Rattle.fs_sched.specs.Faults.{status_of_fault};
 
 use crate::input::words_of;
 use crate::seen::{Faulty, Seen};
 use clap::Error;
 use clap::error::ErrorKind;
+use fs_dialects::{DialectFault, TableFault};
 use fs_draw::DrawFault;
 use fs_entries::Traced;
 use fs_find::{FindFault, WhatFault};
@@ -151,10 +152,35 @@ pub fn report_many<E: Write>(
 ) -> u8
     ensures { result ≡ status_of_many outcome }
 {
-    match outcome {
-        Ok(told) => status_of_outcomes(told.outcomes.as_slice()),
-        Err(fault) => report(errors, seen, Err(ThreadsFault::Run(fault))),
+    let told = match outcome {
+        Ok(told) => told,
+        Err(fault) => return report(errors, seen, Err(ThreadsFault::Run(fault))),
+    };
+    tell(errors, told.notes.words.as_slice());
+    status_of_outcomes(told.outcomes.as_slice())
+}
+
+/// The status where the text in a file is no table, and the message after its name: 4 where there is no memory.
+pub fn report_table<E: Write>(errors: &mut E, file: &str, fault: DialectFault) -> u8
+    ensures { result ≡ status_of_table fault }
+{
+    if let TableFault::OutOfMemory = fault.kind {
+        return report_fault(errors, RunFault::OutOfMemory);
     }
+    let _ = writeln!(errors, "atomfs: {file}: {fault}");
+    3
+}
+
+/// The status where a file or a directory is not written, and the message after its name: 4 where there is no memory.
+pub fn report_unwritten<E: Write>(errors: &mut E, file: &str, error: &io::Error) -> u8
+    ensures memory { error_kind error.now ≡ IoErrorKind.OutOfMemory → result ≡ 4 }
+    ensures file { error_kind error.now ≢ IoErrorKind.OutOfMemory → result ≡ 5 }
+{
+    if error.kind() == IoErrorKind::OutOfMemory {
+        return report_fault(errors, RunFault::OutOfMemory);
+    }
+    let _ = writeln!(errors, "atomfs: {file}: cannot be written");
+    5
 }
 
 /// Writes what is left of a history, or why nothing is.
@@ -170,13 +196,13 @@ fn tell_minimized<E: Write>(errors: &mut E, told: Minimized) {
         }
         Minimized::Unknown(place) => writeln!(
             errors,
-            "atomfs: the limit was reached at entry {place}: give a larger one by --limit"
+            "atomfs: the limit was reached at entry {place}: give a larger one with --limit"
         ),
     };
 }
 
-/// The status that a history came to of which the calls are asked that show that it has no order, or that of its fault, whose
-/// message is written. What is left is told too.
+/// The status of the search for the calls that show that a history has no order, or of its fault, whose message is
+/// written. What is left is reported too.
 pub fn report_minimized<E: Write>(
     errors: &mut E,
     seen: &Seen,
@@ -191,13 +217,14 @@ pub fn report_minimized<E: Write>(
     tell_minimized(errors, told);
     match told {
         Minimized::Core(_, _, _) => 0,
-        Minimized::Lawful | Minimized::Fault(_, _) => 1,
+        Minimized::Lawful => 2,
+        Minimized::Fault(_, _) => 1,
         Minimized::Unknown(_) => 4,
     }
 }
 
-/// The status that a run from the tree in a file came to, or that of its fault, whose message is written: a fault of the tree
-/// behind the name of the file, of which this was read.
+/// The status of a run from the tree in a file, or of its fault, whose message is written. A fault of the tree comes
+/// after the name of the file, of which this was read.
 pub fn report_from<E: Write>(
     errors: &mut E,
     seen: &Seen,
@@ -221,7 +248,7 @@ pub fn report_from<E: Write>(
     fault.status()
 }
 
-/// The status where a file cannot be read, and the message behind its name: 4 where there is no memory for its text.
+/// The status if a file cannot be read, and the message after its name. It is 4 if there is no memory for its text.
 pub fn report_file<E: Write>(errors: &mut E, file: &str, fault: RunFault) -> u8
     ensures { result ≡ status_of_fault fault }
 {
@@ -232,7 +259,7 @@ pub fn report_file<E: Write>(errors: &mut E, file: &str, fault: RunFault) -> u8
     fault.status()
 }
 
-/// The status where a file is not opened, and the message behind its name: 4 where there is no memory.
+/// The status if a file is not opened, and the message after its name. It is 4 if there is no memory.
 pub fn report_unopened<E: Write>(errors: &mut E, file: &str, error: &io::Error) -> u8
     ensures memory { error_kind error.now ≡ IoErrorKind.OutOfMemory → result ≡ 4 }
     ensures file { error_kind error.now ≢ IoErrorKind.OutOfMemory → result ≡ 5 }
@@ -252,7 +279,7 @@ pub fn report_picture<E: Write>(errors: &mut E) -> u8
 {
     let _ = writeln!(
         errors,
-        "atomfs: a terminal shows no picture: write it to a file by `> run.svg` behind the command"
+        "atomfs: a terminal shows no picture: write it to a file with `> run.svg` after the command"
     );
     2
 }
@@ -278,8 +305,8 @@ pub fn report_schedule<E: Write>(
     fault.status()
 }
 
-/// The status that a search of so many runs from a number on came to, or that of its fault, whose message is written. What was
-/// found is told too.
+/// The status of a search of so many runs from a number on, or of its fault, whose message is written. What was found
+/// is reported too.
 pub fn report_find<E: Write>(
     errors: &mut E,
     seen: &Seen,
@@ -321,7 +348,7 @@ fn tell_broken<E: Write>(
     let (word, text) = (assertion.quantifier.word(), assertion.text);
     let _ = write!(errors, "atomfs: {word} {text}: ");
     let _ = match (assertion.quantifier, decided) {
-        (Quantifier::Always, Some(broken)) => writeln!(errors, "seed {broken} has it not"),
+        (Quantifier::Always, Some(broken)) => writeln!(errors, "seed {broken} does not have it"),
         (_, Some(broken)) => writeln!(errors, "seed {broken} has it"),
         (_, None) => writeln!(errors, "no run of {runs} from seed {seed} on has it"),
     };
@@ -342,8 +369,8 @@ fn tell_all_broken<E: Write>(
     }
 }
 
-/// The status that assertions on so many runs from a number on came to, by the first runs that decide them, or that of their fault,
-/// whose message is written: success where all hold. What the runs break is told too.
+/// The status of assertions on so many runs from a number on, by the first runs that decide them, or of their fault,
+/// whose message is written. It is success if all hold. What the runs break is reported too.
 pub fn report_asserted<E: Write>(
     errors: &mut E,
     seen: &Seen,
@@ -382,7 +409,7 @@ fn tell_shrunk<E: Write>(errors: &mut E, shrunk: &Shrunk) {
     }
 }
 
-/// The status that a script which is shrunk came to, or that of its fault, whose message is written. What is left is told too.
+/// The status of shrinking a script, or of its fault, whose message is written. What is left is reported too.
 pub fn report_shrink<E: Write>(
     errors: &mut E,
     seen: &Seen,
@@ -396,7 +423,7 @@ pub fn report_shrink<E: Write>(
             return 0;
         }
         Ok(None) => {
-            let _ = writeln!(errors, "atomfs: its run has it not");
+            let _ = writeln!(errors, "atomfs: its run does not have it");
             return 1;
         }
         Err(fault) => fault,

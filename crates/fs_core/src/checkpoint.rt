@@ -20,7 +20,7 @@ use std::alloc::{AllocError, Global};
 /// Why there was no checkpoint. Nothing has changed by it.
 #[derive(Clone, Copy, Debug, PartialEq, Eq)]
 pub enum NoCheckpoint {
-    /// Calls are under way: the least of their numbers.
+    /// Some calls are pending: the least of their numbers.
     UnderWay(CallNo),
     /// There is no memory for the tree at which the timeline would begin again.
     OutOfMemory,
@@ -38,7 +38,7 @@ fn lesser(one: Option<CallNo>, other: Option<CallNo>) -> Option<CallNo>
 }
 
 impl Core {
-    /// The least number of the calls under way.
+    /// The least number of the pending calls.
     fn least_under_way(&self) -> Option<CallNo>
         ensures { IsLeast self.now result }
     {
@@ -50,7 +50,7 @@ impl Core {
         least
     }
 
-    /// Whether no call is under way; the error is the least number of one.
+    /// Succeeds if no call is pending. The error is the least number of a pending call.
     fn at_rest(&self) -> Result<(), NoCheckpoint>
         ensures rest { OnOk result (IsAtRest self.now) }
         ensures why { IfErr result (IsWhyNot self.now) }
@@ -73,8 +73,9 @@ impl Core {
         Ok(tree)
     }
 
-    /// The tree at which the timeline would begin again: all that a checkpoint takes memory for, and what a second core can begin
-    /// at (`Core::from_tree`). `UnderWay` comes exactly where a call is under way, and is looked for first.
+    /// The tree at which the timeline would begin again. It is all for which a checkpoint takes memory, and a second
+    /// core can begin at it (`Core::from_tree`). `UnderWay` comes exactly if a call is pending, and is looked for
+    /// first.
     pub fn prepare(&self, alloc: Global) -> Result<SeqTree, NoCheckpoint>
         ensures rest { OnOk result (IsAtRest self.now) }
         ensures tree { IfOk result (λ tree. tree ≡ next_start self.now.start (commits self.now.timeline)) }
@@ -103,9 +104,9 @@ impl Core {
             .map_err(|_| NoCheckpoint::OutOfMemory)
     }
 
-    /// The timeline begins again at the tree that its commits played, and its entries so far are handed out. Call numbers
-    /// begin at 1 again; nodes and seats stay. `UnderWay` comes exactly where a call is under way, and is looked for
-    /// first. Where there are no entries it takes no memory, and `OutOfMemory` never comes.
+    /// Hands out the entries so far, and the timeline begins again at the tree that its commits played. Call numbers
+    /// begin at 1 again; nodes and seats stay. `UnderWay` comes exactly if a call is pending, and is looked for first.
+    /// If there are no entries, it takes no memory, and `OutOfMemory` never comes.
     pub fn checkpoint(&mut self, alloc: Global) -> Result<Vec<Entry>, NoCheckpoint>
         ensures rest { OnOk result (IsAtRest self.old) }
         ensures refusals { self.new.refusals ≡ self.old.refusals }

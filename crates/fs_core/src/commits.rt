@@ -1,4 +1,4 @@
-//! Who committed, in which order, and where a call's commit stands.
+//! Who committed, in which order, and where a call's commit is.
 
 ghost use Rattle.std.specs.Prelude.{◌≡◌, ◌<◌, Some, length, slice_get};
 ghost use Rattle.fs_timeline.specs.Timeline.{commits};
@@ -24,7 +24,7 @@ impl Core {
         self.index().committed(i)
     }
 
-    /// How many commits stand before that of the call of this number; none where it has not committed.
+    /// How many commits come before that of the call of this number; none if it has not committed.
     pub fn place_of(&self, call: CallNo) -> Option<usize>
         ensures { result ≡ place_of call self.now.timeline }
     {

@@ -6,7 +6,7 @@ use fs_nodes::NodeNo;
 /// What a step did, without a reply and without who holds the node that is wanted: it fits two registers, so that a walk
 /// writes no answer that nobody looks at.
 pub enum Done {
-    /// No call is under way.
+    /// No call is pending.
     Idle,
     /// It took this node.
     Took(NodeNo),

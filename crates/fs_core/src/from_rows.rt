@@ -55,10 +55,10 @@ impl Core {
         }
     }
 
-    /// A core whose timeline begins at the tree of these entries, by these limits: its nodes spell it, and there are no seats and
-    /// no entries. It is for at most `limit` nodes, the root included. `Bad` tells the first row that no tree within the limits
-    /// has at its place; where memory is wanted for a row in front of it, `OutOfMemory` is told. Where each row fits, but there
-    /// are more of them than `limit`, it is `TooManyNodes`.
+    /// A core whose timeline begins at the tree of these entries, with these limits. Its nodes spell that tree, and it
+    /// has no seats and no entries. It is for at most `limit` nodes, the root included. `Bad` names the first row that
+    /// no tree within the limits has at its place. If memory runs out at an earlier row, the error is `OutOfMemory`. If
+    /// each row fits, but there are more of them than `limit`, it is `TooManyNodes`.
     pub fn from_rows(
         alloc: Global,
         rows: &[Row],

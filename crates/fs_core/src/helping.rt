@@ -215,8 +215,9 @@ fn is_lowest(listed: &[usize], ways: &[Way], seat: usize) -> bool
     ways[seat].below && !is_met(listed, ways, seat)
 }
 
-/// Of the walking calls below a node that would be moved of which each has no other one below its position, the one with the least number: its
-/// seat. Each seat has a place for its way, whatever stands there before. Whoever is not listed has no call.
+/// The seat of one of the walking calls below a node that would be moved. It is the one with the least number among
+/// those that have no other such call below their position. Each seat has a place for its way, whatever is there
+/// before. A seat that is not listed has no call.
 pub fn to_help(
     store: &Store,
     holders: &Holders,

@@ -1,19 +1,20 @@
 //! The shared state of all calls, its begins and its steps, and the linearization theorem.
 //!
-//! `Core::run` carries the theorem, for any list of begins and steps on any seats: the timeline is lawful (`lawful`),
-//! and where no call is under way the nodes spell the tree that its commits play (`spelled`). `Core::told` tells the
-//! same of a core that was driven by `begin` and `step`; `told_of_helping`, `told_of_progress` and `told_of_numbers` tell
-//! what else every core keeps. A begin allocates all that its call can need, and a refused
-//! one changes nothing; a step does one move of the call on a seat, and cannot fail. `Core::checkpoint` hands the entries
-//! out and begins the timeline again at the tree that they lead to; it changes nothing where a call is under way or there
-//! is no memory. `Core::forget` does the same and drops them. `Core::verdict` has the entries judged as they stand.
+//! `Core::run` carries the theorem, for any list of begins and steps on any seats. The timeline is lawful (`lawful`), and if no call is
+//! pending, the nodes spell the tree that its commits play (`spelled`). `Core::told` proves the same of a core that was driven by `begin`
+//! and `step`. `told_of_helping`, `told_of_progress` and `told_of_numbers` prove what else holds of every core.
 //!
-//! Enter at `Core::new`, at `Core::with_limits` where the tree keeps the limits of another version than the second, or at
-//! `Core::from_rows` where there is a tree to begin at (`Core::from_tree`, where that is one of a core at rest, as
-//! `Core::prepare` tells it); then `seat`, `begin`, `step` and `timeline`. What a begin and a step do is
-//! `fs_machine/specs/States.antt`. In `specs/` here `CoreValues` says which of those states a core is in, `Events` what a
-//! list of events does, and `Checkpoints` why there is no checkpoint; `specs/code/` ties the code to them, and changes no
-//! meaning.
+//! A begin allocates all that its call can need, and a refused one changes nothing. A step does one move of the call on a seat, and cannot
+//! fail. `Core::checkpoint` hands the entries out, and the timeline begins again at the tree that they lead to. It changes nothing if a
+//! call is pending or memory runs out. `Core::forget` does the same and drops the entries. `Core::verdict` judges the entries as they are.
+//!
+//! Enter at `Core::new`, which uses `V2`, or at `Core::with_limits` for the limits of another version. `Core::from_rows` begins at a tree,
+//! and so does `Core::from_tree` if that is the tree of a quiescent core, which `Core::prepare` proves. Then come `seat`, `begin`, `step`
+//! and `timeline`.
+//!
+//! `fs_machine/specs/States.antt` defines what a begin and a step do. In `specs/` here, `CoreValues` says which of those states a core is
+//! in. `Events` says what a list of events does, and `Checkpoints` why there is no checkpoint. `specs/code/` ties the code to them, and
+//! changes no meaning.
 #![tactic(auto)]
 
 mod beginning;

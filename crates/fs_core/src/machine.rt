@@ -45,7 +45,7 @@ use std::alloc::{AllocError, Global};
 use std::marker::Model;
 use std::mem;
 
-/// The nodes, who holds them, the calls under way and the timeline.
+/// The nodes, who holds them, the pending calls and the timeline.
 #[derive(Drop)]
 pub struct Core {
     store: Store,
@@ -137,8 +137,8 @@ impl Core {
         Done::LetGo(node)
     }
 
-    /// The walking call on a seat takes its place in the timeline, makes its change and fixes its reply. The entry is the
-    /// call's number: the call itself stands in its Begin entry.
+    /// The walking call on a seat commits in the timeline, makes its change and fixes its reply. The entry is the
+    /// call's number: the call itself is in its Begin entry.
     #[inline(never)]
     fn commit(&mut self, seat: usize, call: CallNo, plan: Plan) -> Done
         requires seat { seat < length self.old.seats }
@@ -200,7 +200,7 @@ impl Core {
         }
     }
 
-    /// The call on a seat returns, and is under way no more.
+    /// The call on a seat returns, and is not pending any more.
     #[inline(never)]
     fn end(&mut self, seat: usize, call: CallNo) -> Stepped
         requires seat { seat < length self.old.seats }
@@ -352,7 +352,8 @@ impl Core {
         Core::with_limit(alloc, Limits::V2.nodes())
     }
 
-    /// One more seat, with no call under way: the first is 0, each next one more. Out of memory nothing changes.
+    /// One more seat, with no pending call: the first is 0, and each next one is one more. If memory runs out, nothing
+    /// changes.
     pub fn seat(&mut self) -> Result<SeatNo, AllocError>
         ensures number { IfOk result (λ seat. seat ≡ length self.old.seats) }
         ensures seats { OnOk result (self.new.seats ≡ self.old.seats ++ None ∷ []) }
@@ -387,16 +388,17 @@ impl Core {
         self.seats.len()
     }
 
-    /// The seats with a call under way, among others or not: whoever looks for a call passes no more than these.
+    /// The seats with a pending call, perhaps with others among them. Whoever looks for a call looks at no more than
+    /// these.
     pub(crate) fn first_seats(&self) -> &[usize]
         ensures { AreListed self.now.seats result.now }
     {
         self.order.first()
     }
 
-    /// A call begins on a seat, and allocates all that it can need. Its number is the number of begins with it.
-    /// After a refusal there is no entry, and nothing has changed: `SeatBusy` comes where the seat has a call under
-    /// way, else `Full` exactly where the call reserves a number and all are in use, and `OutOfMemory` exactly where memory was
+    /// A call begins on a seat, and allocates all that it can need. Its number is the number of begins with it. After a
+    /// refusal there is no entry, and nothing has changed. `SeatBusy` comes if the seat has a pending call. Otherwise
+    /// `Full` comes exactly if the call reserves a number and all are in use, and `OutOfMemory` exactly if memory was
     /// refused, which is counted (`refusals`).
     pub fn begin(&mut self, alloc: Global, seat: SeatNo, call: &Call) -> Result<CallNo, Refusal>
         requires seat { seat < length self.old.seats }
@@ -465,7 +467,7 @@ impl Core {
         self.holders.holder(node)
     }
 
-    /// The call under way on a seat.
+    /// The pending call on a seat.
     pub fn under_way(&self, seat: SeatNo) -> Option<CallNo>
         requires seat { seat < length self.now.seats }
         ensures { result ≡ (state_of self.now).on_seat seat }
@@ -473,7 +475,7 @@ impl Core {
         seat::number(&self.seats[seat.get() as usize])
     }
 
-    /// The nodes: those of the tree, and those that calls under way have reserved or removed.
+    /// The nodes: those of the tree, and those that pending calls have reserved or removed.
     pub fn store(&self) -> &Store
         ensures { result.now ≡ self.now.store }
     {
@@ -549,8 +551,8 @@ impl Core {
         (start.into_tree(), timeline.into_timeline(), store)
     }
 
-    /// What every state keeps, told to a caller: a run leads to it, its timeline is lawful, and where no call is under
-    /// way the nodes spell the tree that the timeline's commits play.
+    /// Does nothing, and proves to its caller what every state keeps. A run leads to the state, and its timeline is
+    /// lawful. If no call is pending, the nodes spell the tree that the timeline's commits play.
     pub fn told(&self)
         ensures run { Run (state_of self.now) }
         ensures lawful { IsLawful self.now.start self.now.timeline }

@@ -1,4 +1,4 @@
-//! A call under way on a seat, and its changes.
+//! A pending call on a seat, and its changes.
 
 ghost use Rattle.std.specs.Prelude.{◌≡◌, ℕ, true, None, Some, IsSome};
 ghost use Rattle.fs_names.specs.Limits.{in_blocks};
@@ -17,8 +17,8 @@ use fs_names::CallNo;
 use fs_nodes::{NodeNo, Store};
 use fs_ops::Op;
 
-/// A call under way: its number, how many commits stand before its own where another call gave it its place,
-/// and how far it is.
+/// A pending call: its number, and how far it is. If another call committed it, also how many commits come before its
+/// own.
 #[derive(Drop)]
 pub struct Running {
     pub call: CallNo,

@@ -1,4 +1,4 @@
-//! The seats in an order in which those with a call under way come first.
+//! The seats in an order in which those with a pending call come first.
 
 ghost use Rattle.std.specs.Prelude.{◌≡◌, ◌≢◌, ℕ, ◌+◌, ◌<◌, ◌≤◌, ◌⊎◌, ◌++◌, ◌∷◌, [], length, slice_index, OnOk, OnErr};
 ghost use Rattle.fs_core.specs.code.Orders.{AreOrdered, IsAmong, IsListed};
@@ -6,12 +6,12 @@ ghost use Rattle.fs_core.specs.code.Orders.{AreOrdered, IsAmong, IsListed};
 use fs_memory::Memory;
 use std::alloc::{AllocError, Global};
 
-/// Each seat once, those with a call under way first, so that whoever looks for a call passes no seat of an ended session.
+/// Each seat once, those with a pending call first, so that whoever looks for a call skips the seats of ended sessions.
 #[derive(Drop)]
 pub struct SeatOrder {
     /// The seats in this order.
     pub seats: Vec<usize>,
-    /// Where each seat stands in it.
+    /// Where each seat is in it.
     pub places: Vec<usize>,
     /// How many come first.
     pub count: usize,
@@ -19,7 +19,7 @@ pub struct SeatOrder {
     ghost within: { count ≤ length seats.items },
 }
 
-/// A seat comes to a place, and the one that stood there comes to where it stood.
+/// A seat comes to a place, and the one that was there comes to where the seat was.
 fn move_to(seats: &mut [usize], places: &mut [usize], seat: usize, place: usize)
     requires ordered { AreOrdered seats.old places.old }
     requires seat { seat < length places.old }
@@ -83,7 +83,7 @@ impl SeatOrder {
         }
     }
 
-    /// A seat comes behind the first, where it is among them.
+    /// A seat leaves the first ones, if it is among them.
     pub fn leave(&mut self, seat: usize)
         requires { seat < length self.old.places.items }
         ensures places { length self.new.places.items ≡ length self.old.places.items }

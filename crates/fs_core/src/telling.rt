@@ -1,4 +1,4 @@
-//! What every core keeps, told to a caller by calls that do nothing.
+//! What every core keeps, proved to a caller by calls that do nothing.
 
 ghost use Rattle.std.specs.Prelude.{ℕ, ◌+◌, ◌≤◌, length};
 ghost use Rattle.fs_nodes.specs.Graphs.{IsGraph};
@@ -44,11 +44,11 @@ impl Core {
         self.told();
     }
 
-    /// Of progress: each seat has a step, which the state determines; a call that finds its node held is told of another
-    /// call; who waits for a waiting call stands above it, and of the waiting calls each that stands deepest waits for one
-    /// that can go on; where a call is under way, some seat's step lets one go on; each such step takes from a bound on the
-    /// steps that are left, to which a begin adds what its names ask. A call that runs alone replies and changes as the
-    /// sequential tree says.
+    /// What every core keeps of progress. Each seat has a step, which the state determines. A call that finds its node
+    /// held gets the name of another call. A call that waits for a waiting call is above it, and each of the deepest
+    /// waiting calls waits for one that can go on. If a call is pending, some seat's step lets one go on. Each such
+    /// step takes from a bound on the steps that are left, to which a begin adds what its names ask. A call that runs
+    /// alone replies and changes as the sequential tree says.
     pub fn told_of_progress(&self)
         ensures steps { (seat : ℕ) → HasStep (state_of self.now) seat }
         ensures determined { IsDetermined (state_of self.now) }
@@ -63,9 +63,9 @@ impl Core {
         self.told();
     }
 
-    /// Of numbers: in use are exactly those that are reached from the root, those that a call under way has reserved and
-    /// not used, and those that it has removed and still holds. The graph is one, a node's holder is the call that holds
-    /// it, a seat's call is the one under way there, and a call holds at most four nodes.
+    /// What every core keeps of numbers. In use are exactly those that are reached from the root, those that a pending
+    /// call has reserved and not used, and those that it has removed and still holds. The graph is one, a node's holder
+    /// is the call that holds it, a seat's call is the one that is pending there, and a call holds at most four nodes.
     pub fn told_of_numbers(&self)
         ensures no_leak { NumbersAreKept (state_of self.now) }
         ensures counted { used_below (graph_of self.now.store).shape (state_of self.now).limit ≤ begins self.now.timeline + length self.now.start.tree }

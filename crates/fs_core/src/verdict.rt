@@ -9,9 +9,10 @@ use fs_timeline::Verdict;
 use std::alloc::{AllocError, Global};
 
 impl Core {
-    /// The verdict on the entries as they stand, from the tree at which the timeline begins: the checker goes over them once, and
-    /// plays their commits on a copy of that tree. Calls may be under way. By the theorem the answer is `Lawful`; who asks has
-    /// it from code that shares nothing with what made the entries. The only error is out of memory.
+    /// The verdict on the entries as they are, from the tree at which the timeline begins. The checker goes over them
+    /// once, and plays their commits on a copy of that tree. Calls may be pending. By the theorem the answer is
+    /// `Lawful`. A caller gets it here from code that shares nothing with the code that made the entries. The only
+    /// error is out of memory.
     pub fn verdict(&self, alloc: Global) -> Result<Verdict, AllocError>
         ensures verdict { IfOk result (λ v. v ≡ verdict self.now.start self.now.timeline) }
         ensures lawful { IfOk result (λ v. v ≡ Verdict.Lawful) }

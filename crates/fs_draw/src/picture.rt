@@ -3,9 +3,11 @@
 ghost use Rattle.std.specs.Prelude.{IfOk};
 ghost use Rattle.fs_draw.specs.Pictures.{IsPicture};
 
-use crate::head::{heading_of, write_head, write_legend};
-use crate::ink::Ink;
-use crate::row_text::Canvas;
+use crate::head::{heading_end, write_head};
+use crate::legend::write_legend;
+use crate::news::heading_of;
+use crate::tree_text::write_trees;
+use fs_ink::{Canvas, Ink};
 use fs_layout::{Frame, Places, ROW_GAP, Rows, add, bands_of, frame_of, heading_width, places_of};
 use fs_scene::Scene;
 use std::alloc::{AllocError, Global};
@@ -54,7 +56,7 @@ fn middle_of(alloc: Global, scene: &Scene) -> Result<Middle, AllocError> {
     let heading = heading_of(alloc, scene)?;
     let wide = frame_of(scene.lanes.as_slice());
     let places = places_of(alloc, scene, wide)?;
-    let frame = fitted(wide, &places, heading.len());
+    let frame = fitted(wide, &places, heading.news.len());
     let canvas = Canvas {
         alloc,
         scene,
@@ -63,7 +65,7 @@ fn middle_of(alloc: Global, scene: &Scene) -> Result<Middle, AllocError> {
     };
     let mut body = Ink::new(alloc);
     let below = places.rows <= 1;
-    let mut y = 32;
+    let mut y = heading_end(&heading);
     if !below {
         y = add(
             write_legend(alloc, scene, frame.width, add(y, 4), &mut body)?,
@@ -71,11 +73,12 @@ fn middle_of(alloc: Global, scene: &Scene) -> Result<Middle, AllocError> {
         );
     }
     y = write_rows(&canvas, y, &mut body)?;
+    y = write_trees(alloc, scene, frame, add(y, 4), &mut body)?;
     if below {
         y = write_legend(alloc, scene, frame.width, add(y, ROW_GAP), &mut body)?;
     }
     let mut head = Ink::new(alloc);
-    write_head(scene, frame.width, add(y, 8), heading.as_slice(), &mut head)?;
+    write_head(alloc, scene, frame.width, add(y, 8), &heading, &mut head)?;
     Ok(Middle {
         head: head.into_text(),
         body: body.into_text(),

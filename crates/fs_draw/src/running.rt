@@ -13,7 +13,7 @@ use crate::fault::DrawFault;
 use crate::picture::picture_of;
 use fs_io::{Made, Sink, Source, transform};
 use fs_journal::check_from;
-use fs_scene::{Scene, Strip, around, scene_of_journal, scene_of_run};
+use fs_scene::{Scene, Strip, around, folded, scene_of_journal, scene_of_run};
 use fs_sched::{RunFault, Schedule, between, is_lawful, journal_in, script_in, watch};
 use fs_story::Teller;
 use std::alloc::{AllocError, Global};
@@ -121,6 +121,9 @@ fn draw_text(
     drop(text);
     let well = drawing.well;
     let part = part_of(alloc, drawing.scene, call)?;
+    let Ok(part) = folded(alloc, part) else {
+        return Err(out_of_memory());
+    };
     match picture_of(alloc, &part) {
         Ok(text) => Ok(Made { text, end: well }),
         Err(_) => Err(out_of_memory()),

@@ -1,12 +1,14 @@
 -- What begins, steps and calls that a caller asks for do to a core.
-use Rattle.std.specs.Prelude.{◌≡◌, ◌≢◌, ℕ, ◌≤◌, true, false, Result, Ok, Err, length}
+use Rattle.std.specs.Prelude.{◌≡◌, ◌≢◌, ℕ, ◌≤◌, ◌<◌, ◌+◌, true, false, Result, Ok, Err, length}
 use Rattle.fs_names.specs.declared.limits.Limits.{Limits}
+use Rattle.fs_calls.specs.Forms.{form}
 use Rattle.fs_calls.specs.declared.call.Call.{Call}
 use Rattle.fs_calls.specs.declared.reply.Reply.{Reply}
 use Rattle.fs_words.specs.declared.fault.FaultKind.{FaultKind}
 use Rattle.fs_words.specs.declared.fault.FaultKind.TheVariants as kind
 use Rattle.fs_laws.specs.OneCall.{IsNoReturn, StepsTo}
 use Rattle.fs_laws.specs.Progress.{GoesOn}
+use Rattle.fs_laws.specs.StepsLeft.{steps_left, first_steps}
 use Rattle.fs_machine.specs.States.{State, Begins, Step}
 use Rattle.fs_core.specs.CoreValues.{CoreValue, state_of}
 use Rattle.fs_machine.specs.declared.answers.Refusal.{Refusal}
@@ -27,9 +29,13 @@ Asks given limits call = (given limits ≡ Ok call) × (has_call limits call ≡
 abbrev pub Opens : CoreValue → ℕ → Asked → ℕ → State → Type 0
 Opens old seat given number first = (call : Call) × Asks given old.start.limits call × Begins (state_of old) seat call (Ok number) first
 
--- the same, nothing else happens, and no memory was refused
+-- a begin adds steps that are left: two for each name in the paths of its call, and twelve
+abbrev pub AddsSteps : CoreValue → Asked → State → Type 0
+AddsSteps old given new = (call : Call) → given old.start.limits ≡ Ok call → steps_left new ≡ steps_left (state_of old) + first_steps (form old.start.limits call)
+
+-- the same, nothing else happens, no memory was refused, and so many steps more are left
 abbrev pub BeginsCall : CoreValue → ℕ → Asked → ℕ → CoreValue → Type 0
-BeginsCall old seat given number new = Opens old seat given number (state_of new) × (new.refusals ≡ old.refusals)
+BeginsCall old seat given number new = Opens old seat given number (state_of new) × (new.refusals ≡ old.refusals) × AddsSteps old given (state_of new)
 
 -- what is asked for is no call; out of memory says nothing of it
 abbrev pub IsNoCall : Result Call FaultKind → FaultKind → Type 0
@@ -104,3 +110,11 @@ GoesOnAs old seat code about new = (answer : Stepped) × GoesOn answer × (code 
 -- the step of a seat lets no call go on
 abbrev pub StandsStill : State → ℕ → Type 0
 StandsStill state seat = (answer : Stepped) × (new : State) × Step state seat answer new × (GoesOn answer → ⊥)
+
+-- fewer steps are left than before
+abbrev pub LeavesFewer : CoreValue → CoreValue → Type 0
+LeavesFewer old new = steps_left (state_of new) < steps_left (state_of old)
+
+-- none is left
+abbrev pub LeavesNone : CoreValue → Type 0
+LeavesNone new = steps_left (state_of new) ≡ 0

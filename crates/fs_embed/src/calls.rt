@@ -4,7 +4,7 @@ ghost use Rattle.std.specs.Prelude.{◌≡◌, ◌<◌, ◌≤◌, ℕ, length, 
 ghost use Rattle.fs_laws.specs.OneCall.{StepsTo};
 ghost use Rattle.fs_core.specs.CoreValues.{state_of, IsAtRest};
 ghost use Rattle.fs_embed.specs.Requests.{asked};
-ghost use Rattle.fs_embed.specs.Calls.{BeginsCall, IsNotBegun, RunsCall, IsNotReturned, Steps, IsWaiting, StepsAs, StandsStill, GoesOnAs, code_of, about_of};
+ghost use Rattle.fs_embed.specs.Calls.{BeginsCall, IsNotBegun, RunsCall, IsNotReturned, Steps, IsWaiting, StepsAs, StandsStill, GoesOnAs, LeavesFewer, LeavesNone, code_of, about_of};
 
 use crate::request::{Request, has_call};
 use fs_calls::Reply;
@@ -38,7 +38,7 @@ pub struct Returned {
 pub enum NotReturned {
     /// It did not begin, and nothing has changed.
     NotBegun(NotBegun),
-    /// The call of the first number is under way on its seat, and waits for a node that the call of the second holds.
+    /// The call of the first number is pending on its seat, and waits for a node that the call of the second holds.
     Waits(CallNo, CallNo),
 }
 
@@ -81,13 +81,14 @@ pub fn begin_call(
     if !has_call(limits, &call) {
         return Err(NotBegun::NoSuchCall);
     }
+    core.told_of_progress();
     match core.begin(alloc, seat, &call) {
         Ok(number) => Ok(number),
         Err(refusal) => Err(NotBegun::Refused(refusal)),
     }
 }
 
-/// Steps of a seat with a call under way, until it returns or waits: its reply, or the number of the call it waits for.
+/// Steps of a seat with a pending call, until it returns or waits: its reply, or the number of the call it waits for.
 fn finish(core: &mut Core, seat: SeatNo) -> Result<Reply, CallNo>
     requires seat { seat < length core.old.seats }
     requires under_way { IsSome ((state_of core.old).on_seat seat) }
@@ -106,8 +107,8 @@ fn finish(core: &mut Core, seat: SeatNo) -> Result<Reply, CallNo>
     }
 }
 
-/// Runs the call that is asked for on a seat, from its begin to its return. A call that comes to a node which a call of
-/// another seat holds stays under way there: `step_seat` goes on with it.
+/// Runs the call that is asked for on a seat, from its begin to its return. If it comes to a node that a call of
+/// another seat holds, it stays pending there, and `step_seat` goes on with it.
 pub fn run_call(
     alloc: Global,
     core: &mut Core,
@@ -146,7 +147,7 @@ fn told(stepped: &Stepped) -> StepTold
     StepTold { code, about }
 }
 
-/// Does one step of the call on a seat, and tells what it did; `None` where there is no such seat.
+/// Does one step of the call on a seat, and answers what it did; `None` if there is no such seat.
 pub fn step_seat(core: &mut Core, seat: SeatNo) -> Option<StepTold>
     ensures step { MatchOption result ((length core.old.seats ≤ seat) × (core.new ≡ core.old)) (λ step. StepsAs core.old seat step.code step.about core.new) }
     ensures seats { length core.new.seats ≡ length core.old.seats }
@@ -157,7 +158,7 @@ pub fn step_seat(core: &mut Core, seat: SeatNo) -> Option<StepTold>
     Some(told(&core.step(seat)))
 }
 
-/// Does the step of a seat by which its call goes on, and tells what it did; `None` where the call waits, and where there is
+/// Does the step of a seat with which its call goes on, and answers what it did; `None` if the call waits, or there is
 /// none.
 fn step_on(core: &mut Core, seat: SeatNo) -> Option<StepTold>
     requires seat { seat < length core.old.seats }
@@ -171,10 +172,12 @@ fn step_on(core: &mut Core, seat: SeatNo) -> Option<StepTold>
     }
 }
 
-/// Does one step of a call that does not wait, and tells its seat and what it did: the first seat whose call goes on. `None`
-/// exactly where no call is under way, so calls never wait for each other without end.
+/// Does one step of a call that does not wait, and answers its seat and what it did. It is the first seat whose call
+/// goes on. `None` comes exactly if no call is pending, so calls never wait for each other without end. Each step leaves at
+/// least one step less, and a begin adds two for each name of its paths and twelve. So a loop of such steps ends.
 pub fn step_any(core: &mut Core) -> Option<(SeatNo, StepTold)>
     ensures never_stuck { MatchOption result (IsAtRest core.old × (state_of core.new ≡ state_of core.old)) (λ went. GoesOnAs core.old went.0 went.1.code went.1.about core.new) }
+    ensures fewer { MatchOption result (LeavesNone core.new) (λ _. LeavesFewer core.old core.new) }
     ensures first { IfSome result (λ went. (seat : ℕ) → seat < went.0 → StandsStill (state_of core.old) seat) }
     ensures seats { length core.new.seats ≡ length core.old.seats }
 {

@@ -13,7 +13,7 @@ use crate::told::tell;
 use fs_core::{Core, NoCheckpoint};
 use std::alloc::Global;
 
-/// Tells why a journal did not begin again, and the least number of a call under way.
+/// Reports why a journal did not begin again, and the least number of a pending call.
 pub fn tell_why_not(why: &NoCheckpoint, number: &mut u64) -> u8
     ensures told { IsToldWhyNot why.now result number.new }
     ensures unnumbered { result ≢ UNDER_WAY → number.new ≡ number.old }
@@ -27,8 +27,8 @@ pub fn tell_why_not(why: &NoCheckpoint, number: &mut u64) -> u8
     }
 }
 
-/// Begins the journal again at the tree as it stands, gives the memory of its entries back, and tells how many calls they were
-/// of. The number of the reason why it did not, where it did not.
+/// Begins the journal again at the tree as it is, frees the memory of its entries, and reports how many calls they were
+/// of. If it does not, it answers the number of the reason.
 pub fn again(alloc: Global, core: &mut Core, number: &mut u64) -> u8
     ensures again { result ≡ OK → IsForgotten core.old core.new }
     ensures calls { result ≡ OK → number.new ≡ calls core.old }

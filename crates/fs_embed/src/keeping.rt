@@ -12,7 +12,7 @@ use fs_core::{Core, NoCheckpoint};
 use fs_names::{CallNo, SeatNo};
 use std::alloc::Global;
 
-/// Whether more calls stand than are to be kept.
+/// Whether there are more calls than are to be kept.
 fn is_over(core: &Core, most: Option<u64>) -> bool
     ensures { MatchBool result (IsOver most core.now) (IsOver most core.now → ⊥) }
 {
@@ -22,8 +22,9 @@ fn is_over(core: &Core, most: Option<u64>) -> bool
     }
 }
 
-/// Forgets the calls of a core where more stand than are to be kept, all of which are by `None`, and none is under way: how many it
-/// forgot. An error says why it did not, where there were more: nothing has changed then, and it can be tried again.
+/// Forgets the calls of a core if there are more than are to be kept, and none is pending, and answers how many it
+/// forgot. With `None` all are kept. An error says why it did not forget calls, although there were more. Then nothing
+/// has changed, and it can be tried again.
 pub fn keep_last(alloc: Global, core: &mut Core, most: Option<u64>) -> Result<u64, NoCheckpoint>
     ensures kept { Keeps most core.old core.new }
     ensures forgot { IsOver most core.old → IfOk result (λ count. (count ≡ calls core.old) × IsForgotten core.old core.new) }
@@ -38,7 +39,7 @@ pub fn keep_last(alloc: Global, core: &mut Core, most: Option<u64>) -> Result<u6
     Ok(0)
 }
 
-/// Begins the call that is asked for on a seat, behind what the core forgets, and answers its number.
+/// Begins the call that is asked for on a seat, after the core has forgotten what it may, and answers its number.
 pub fn begin_kept(
     alloc: Global,
     core: &mut Core,
@@ -54,8 +55,8 @@ pub fn begin_kept(
     begin_call(alloc, core, seat, request)
 }
 
-/// Runs the call that is asked for on a seat, behind what the core forgets, from its begin to its return. What was forgotten is
-/// of earlier calls: the reply of this one stands in the timeline.
+/// Runs the call that is asked for on a seat, after the core has forgotten what it may, from its begin to its return.
+/// Only earlier calls were forgotten: the reply of this one is in the timeline.
 pub fn run_kept(
     alloc: Global,
     core: &mut Core,

@@ -25,8 +25,8 @@ fn kind_at(store: &Store, node: NodeNo) -> Option<Kind>
     None
 }
 
-/// What the path of a word leads to among the nodes, whoever holds them; `None` where it leads nowhere. No call begins
-/// and no entry is made, so it says nothing of the order of the calls under way.
+/// What the path of a word leads to among the nodes, whoever holds them; `None` if it leads nowhere. No call begins and
+/// no entry is made, so it says nothing of the order of the pending calls.
 pub fn kind_of(alloc: Global, core: &Core, word: &[u8]) -> Result<Option<Kind>, FaultKind>
     ensures ok { IfOk result (λ kind. Leads core.now word.now kind) }
     ensures err { IfErr result (IsNoPath core.now.start.limits word.now) }

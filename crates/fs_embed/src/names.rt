@@ -10,7 +10,7 @@ use fs_names::{NameList, Names};
 use std::alloc::{AllocError, Global};
 use std::cmp::Ordering;
 
-/// A name, and a byte 0 behind it.
+/// A name, and a byte 0 after it.
 fn push_name(name: &[u8], text: &mut Vec<u8>) -> Result<(), AllocError>
     ensures { OnOk result (text.new.items ≡ text.old.items ++ name.now ++ 0 ∷ []) }
 {
@@ -19,7 +19,7 @@ fn push_name(name: &[u8], text: &mut Vec<u8>) -> Result<(), AllocError>
     Ok(())
 }
 
-/// The text of names, a byte 0 behind each. The only error is out of memory.
+/// The text of names, a byte 0 after each. The only error is out of memory.
 pub fn names_text(alloc: Global, names: &NameList) -> Result<Vec<u8>, AllocError>
     ensures { IfOk result (λ text. text.items ≡ names_text names.now) }
 {
@@ -31,7 +31,7 @@ pub fn names_text(alloc: Global, names: &NameList) -> Result<Vec<u8>, AllocError
     Ok(text)
 }
 
-/// Whether a name comes behind bytes in byte order.
+/// Whether a name comes after bytes in byte order.
 fn comes_behind(name: &[u8], after: &[u8]) -> bool
     ensures { result ≡ is_lt (name_cmp after.now name.now) }
 {
@@ -41,7 +41,7 @@ fn comes_behind(name: &[u8], after: &[u8]) -> bool
     }
 }
 
-/// Takes names up to the first that comes behind a name in byte order.
+/// Takes names up to the first that comes after a name in byte order.
 fn first_behind<'a>(left: &mut Names<'a>, after: &[u8]) -> Option<&'a [u8]>
     ensures { MatchOption result (behind after.now left.old ≡ []) (λ first. behind after.now left.old ≡ first.now ∷ left.new) }
 {
@@ -53,7 +53,7 @@ fn first_behind<'a>(left: &mut Names<'a>, after: &[u8]) -> Option<&'a [u8]>
     None
 }
 
-/// Adds names to a text, each with the byte behind it: as many of the first as there is room for.
+/// Adds names to a text, each with the byte after it: as many of the first as there is room for.
 fn push_fitting(left: &mut Names<'_>, room: usize, text: &mut Vec<u8>) -> Result<(), AllocError>
     ensures { OnOk result (text.new.items ≡ text.old.items ++ names_text (fitting room left.old)) }
 {
@@ -68,8 +68,8 @@ fn push_fitting(left: &mut Names<'_>, room: usize, text: &mut Vec<u8>) -> Result
     Ok(())
 }
 
-/// Adds the names to a text that come behind a name in byte order: as many of the first of them as there is room for, and the
-/// first in any case.
+/// Adds the names to a text that come after a name in byte order: as many of the first of them as there is room for,
+/// and the first in any case.
 fn push_behind(
     names: &NameList,
     after: &[u8],
@@ -86,9 +86,9 @@ fn push_behind(
     push_fitting(&mut left, room.saturating_sub(first.len() + 1), text)
 }
 
-/// The text of the names that come behind a name in byte order: of as many of the first of them as there is room for, with the
-/// byte behind each. Where there is no room for the first it is told all the same, so that a caller sees what it wants. The only
-/// error is out of memory.
+/// The text of the names that come after a name in byte order: as many of the first of them as there is room for, with
+/// the byte after each. If there is no room for the first, the text has it all the same, so that a caller sees how much
+/// room it needs. The only error is out of memory.
 pub fn behind_text(
     alloc: Global,
     names: &NameList,

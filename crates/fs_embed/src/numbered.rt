@@ -18,7 +18,8 @@ fn count_of(size: u64) -> u32
     u32::try_from(size).unwrap_or(u32::MAX)
 }
 
-/// The call that a number and what may stand with it ask for. A list of more than 4,294,967,295 names is one of so many.
+/// The call that is asked for by a number and what may come with it. A list of more than 4,294,967,295 names is one of
+/// so many.
 pub fn request_of<'a>(
     call: u8,
     path: &'a [u8],
@@ -80,7 +81,7 @@ pub fn schedule_of(number: u8, seed: u64) -> Option<Schedule>
     }
 }
 
-/// Whether a number stands for true: any but 0.
+/// Whether a number means true: any but 0.
 pub fn is_set(flag: u8) -> bool
     ensures { result ≡ is_set flag }
 {

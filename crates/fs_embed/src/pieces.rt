@@ -1,4 +1,4 @@
-//! A journal in pieces: what stands before the entries of one, and the whole of it.
+//! A journal in pieces: what comes before the entries of one, and the whole of it.
 
 ghost use Rattle.std.specs.Prelude.{◌≡◌, IfOk};
 ghost use Rattle.fs_script.specs.Journals.{opening, journal_text};
@@ -9,7 +9,7 @@ use fs_script::write_opening;
 use fs_seq::SeqTree;
 use std::alloc::{AllocError, Global};
 
-/// What stands before the entries of a journal that starts at a tree. The only error is out of memory.
+/// What comes before the entries of a journal that starts at a tree. The only error is out of memory.
 pub fn opening_text(alloc: Global, start: &SeqTree) -> Result<Vec<u8>, AllocError>
     ensures { IfOk result (λ text. text.items ≡ opening start.now) }
 {

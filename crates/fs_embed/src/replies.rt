@@ -1,4 +1,4 @@
-//! What tells the reply of a call that has returned.
+//! What writes the reply of a call that has returned to a caller's memory.
 
 ghost use Rattle.std.specs.Prelude.{◌≡◌, ◌≢◌, ◌⊎◌, Some, MatchOption};
 ghost use Rattle.fs_embed.specs.Texts.{IsReply, HasNoReply};
@@ -20,7 +20,7 @@ fn reply_of(core: &Core, number: u64) -> Option<&Reply>
     find_reply(core.timeline(), CallNo::new(number))
 }
 
-/// Tells the text of the reply of a call.
+/// Writes the text of the reply of a call.
 pub fn tell_reply(alloc: Global, core: &Core, number: u64, out: &mut [u8], count: &mut usize) -> u8
     ensures replied { IsReplied (Some core.now) (λ reply. IsToldText reply result count.new out.old out.new) number result }
     ensures only { IsOfReply result ⊎ (result ≡ NO_MEMORY) }
@@ -36,7 +36,7 @@ pub fn tell_reply(alloc: Global, core: &Core, number: u64, out: &mut [u8], count
     }
 }
 
-/// Tells that a call is done which answers no more.
+/// The status of a call that replies only that it is done, or that it failed.
 pub fn tell_reply_done(core: &Core, number: u64) -> u8
     ensures replied { IsReplied (Some core.now) (λ reply. result ≡ done_status reply) number result }
     ensures only { IsOfReply result }
@@ -48,7 +48,7 @@ pub fn tell_reply_done(core: &Core, number: u64) -> u8
     }
 }
 
-/// Tells the reply of a stat.
+/// Writes the reply of a stat.
 pub fn tell_reply_stat(core: &Core, number: u64, stat: &mut Stat) -> u8
     ensures replied { IsReplied (Some core.now) (λ reply. IsToldStat reply result stat.new) number result }
     ensures only { IsOfReply result }
@@ -61,7 +61,7 @@ pub fn tell_reply_stat(core: &Core, number: u64, stat: &mut Stat) -> u8
     }
 }
 
-/// Tells the names of a readdir or a list that come behind one, as many as there is room for.
+/// Writes the names of a readdir or a list that come after one, as many as there is room for.
 pub fn tell_reply_names(
     alloc: Global,
     core: &Core,
@@ -81,7 +81,7 @@ pub fn tell_reply_names(
     }
 }
 
-/// Tells the bytes of a read.
+/// Writes the bytes of a read.
 pub fn tell_reply_bytes(core: &Core, number: u64, out: &mut [u8], count: &mut usize) -> u8
     ensures replied { IsReplied (Some core.now) (λ reply. IsToldBytes reply result count.new out.old out.new) number result }
     ensures only { IsOfReply result }
@@ -94,7 +94,7 @@ pub fn tell_reply_bytes(core: &Core, number: u64, out: &mut [u8], count: &mut us
     }
 }
 
-/// Tells how many bytes a write wrote.
+/// Writes how many bytes a write wrote.
 pub fn tell_reply_wrote(core: &Core, number: u64, wrote: &mut u64) -> u8
     ensures replied { IsReplied (Some core.now) (λ reply. IsToldWrote reply result wrote.new) number result }
     ensures only { IsOfReply result }

@@ -26,11 +26,11 @@ pub enum Request<'a> {
     Unlink(&'a [u8]),
     /// Removes the entry of an empty directory.
     Rmdir(&'a [u8]),
-    /// Moves what stands at the first path to the second.
+    /// Moves what is at the first path to the second.
     Rename(&'a [u8], &'a [u8]),
-    /// Lets what stands at two paths change places.
+    /// Lets what is at two paths change places.
     Exchange(&'a [u8], &'a [u8]),
-    /// Asks what stands at a path.
+    /// Asks what is at a path.
     Stat(&'a [u8]),
     /// Asks for all names of a directory.
     Readdir(&'a [u8]),

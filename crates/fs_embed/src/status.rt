@@ -9,16 +9,16 @@ use fs_core::Refusal;
 use fs_names::PathFault;
 use fs_text::FaultKind;
 
-/// Done, and all that was asked for is told.
+/// Done, and all that was asked for is written.
 pub const OK: u8 = 0;
 
-/// Done, but the text is longer than the caller's bytes, which are as before: its length is told.
+/// Done, but the text is longer than the caller's bytes, which are as before. Its length is reported.
 pub const TOO_SMALL: u8 = 1;
 
-/// The call returned, and its reply is not told: an allocation for it failed, or it is of another kind.
+/// The call returned, but its reply could not be delivered: an allocation for it failed, or it is of another kind.
 pub const UNTOLD: u8 = 2;
 
-/// The call is under way, and waits for a node that a call of another seat holds.
+/// The call is pending, and waits for a node that a call of another seat holds.
 pub const WAITS: u8 = 3;
 
 /// The handle is closed. From this number on, below `FAILED`, nothing has changed.
@@ -36,7 +36,7 @@ pub const NO_MEMORY: u8 = 7;
 /// There is no such seat.
 pub const NO_SEAT: u8 = 8;
 
-/// The seat has a call under way.
+/// The seat has a pending call.
 pub const SEAT_BUSY: u8 = 9;
 
 /// The call reserves a node number, and all are in use.
@@ -45,7 +45,7 @@ pub const FULL: u8 = 10;
 /// No call of this number has returned.
 pub const NO_REPLY: u8 = 11;
 
-/// A call is under way.
+/// A call is pending.
 pub const UNDER_WAY: u8 = 12;
 
 /// No limits of names and files have this version, or those of the tree have no such call.

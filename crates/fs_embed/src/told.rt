@@ -1,4 +1,4 @@
-//! What tells replies, verdicts and faults in a caller's memory.
+//! What writes replies, verdicts and faults to a caller's memory.
 
 ghost use Rattle.std.specs.Prelude.{◌≡◌, ◌≢◌, ◌<◌, length};
 ghost use Rattle.fs_embed.specs.Statuses.{IsReturned, IsRefusal, IsToldFault, IsToldWhy};
@@ -16,7 +16,7 @@ use fs_sched::RunFault;
 use fs_timeline::{FaultKind, Verdict};
 use std::alloc::Global;
 
-/// What stands at a path: whether a directory, as 1 or 0, and how many entries or bytes it has.
+/// What is at a path: whether it is a directory, as 1 or 0, and how many entries or bytes it has.
 #[repr(C)]
 #[derive(Clone, Copy)]
 pub struct Stat {
@@ -24,7 +24,7 @@ pub struct Stat {
     pub size: u64,
 }
 
-/// Tells a text in a caller's bytes, and its length.
+/// Writes a text to a caller's bytes if they have room for it, and its length.
 pub fn tell(text: &[u8], out: &mut [u8], count: &mut usize) -> u8
     ensures tells { Tells result text.now count.new out.old out.new }
     ensures either { result < UNTOLD }
@@ -34,7 +34,7 @@ pub fn tell(text: &[u8], out: &mut [u8], count: &mut usize) -> u8
     if copy_out(text, out) { OK } else { TOO_SMALL }
 }
 
-/// Tells the text of a reply.
+/// Writes the text of a reply to a caller's bytes, and its length.
 pub fn tell_text(alloc: Global, reply: &Reply, out: &mut [u8], count: &mut usize) -> u8
     ensures told { IsToldText reply.now result count.new out.old out.new }
     ensures returned { IsReturned result }
@@ -46,7 +46,7 @@ pub fn tell_text(alloc: Global, reply: &Reply, out: &mut [u8], count: &mut usize
     }
 }
 
-/// Tells that a call is done, or failed.
+/// The status of a call that is done, or failed.
 pub fn tell_done(reply: &Reply) -> u8
     ensures told { result ≡ done_status reply.now }
     ensures returned { IsReturned result }
@@ -67,7 +67,7 @@ fn is_dir(kind: Kind) -> u8
     }
 }
 
-/// Tells the reply of a stat.
+/// Writes the reply of a stat.
 pub fn tell_stat(reply: &Reply, stat: &mut Stat) -> u8
     ensures told { IsToldStat reply.now result stat.new }
     ensures returned { IsReturned result }
@@ -86,7 +86,7 @@ pub fn tell_stat(reply: &Reply, stat: &mut Stat) -> u8
     }
 }
 
-/// Tells the names of a readdir or a list, a byte 0 behind each.
+/// Writes the names of a readdir or a list, a byte 0 after each.
 pub fn tell_names(alloc: Global, reply: &Reply, out: &mut [u8], count: &mut usize) -> u8
     ensures told { IsToldNames reply.now result count.new out.old out.new }
     ensures returned { IsReturned result }
@@ -102,7 +102,7 @@ pub fn tell_names(alloc: Global, reply: &Reply, out: &mut [u8], count: &mut usiz
     }
 }
 
-/// Tells the bytes of a read.
+/// Writes the bytes of a read, and how many they are.
 pub fn tell_bytes(reply: &Reply, out: &mut [u8], count: &mut usize) -> u8
     ensures told { IsToldBytes reply.now result count.new out.old out.new }
     ensures returned { IsReturned result }
@@ -115,7 +115,7 @@ pub fn tell_bytes(reply: &Reply, out: &mut [u8], count: &mut usize) -> u8
     }
 }
 
-/// Tells how many bytes a write wrote.
+/// Writes how many bytes a write wrote.
 pub fn tell_wrote(reply: &Reply, wrote: &mut u64) -> u8
     ensures told { IsToldWrote reply.now result wrote.new }
     ensures returned { IsReturned result }
@@ -131,7 +131,7 @@ pub fn tell_wrote(reply: &Reply, wrote: &mut u64) -> u8
     }
 }
 
-/// Tells the names of a readdir or a list that come behind one, as many as there is room for.
+/// Writes the names of a readdir or a list that come after one, as many as there is room for.
 pub fn tell_behind(
     alloc: Global,
     reply: &Reply,
@@ -168,7 +168,7 @@ fn kind_number(kind: FaultKind) -> u8
     }
 }
 
-/// Tells a verdict by a place and a kind.
+/// Writes a verdict as a place and a kind.
 pub fn tell_verdict(verdict: &Verdict, place: &mut u64, kind: &mut u8)
     ensures { IsToldVerdict verdict.now place.new kind.new }
 {
@@ -178,7 +178,7 @@ pub fn tell_verdict(verdict: &Verdict, place: &mut u64, kind: &mut u8)
     };
 }
 
-/// Tells why a call did not return, and the number of one that is under way.
+/// Reports why a call did not return, and the number of one that is pending.
 pub fn tell_why(why: &NotReturned, number: &mut u64) -> u8
     ensures told { IsToldWhy why.now result number.new }
     ensures unnumbered { result ≢ WAITS → number.new ≡ number.old }
@@ -192,7 +192,7 @@ pub fn tell_why(why: &NotReturned, number: &mut u64) -> u8
     }
 }
 
-/// Tells why a run has no text: its number, and the line of a fault of the input, or the number of a call under way.
+/// Reports why a run has no text: its number, and the line of a fault of the input, or the number of a pending call.
 pub fn tell_fault(fault: RunFault, count: &mut usize) -> u8
     ensures told { IsToldFault fault result count.new }
     ensures refused { IsRefusal result }

@@ -2,13 +2,13 @@
 
 ghost use Rattle.fs_endings.specs.Laws.{StepsAreFew, CallsCanEnd};
 
-/// Whoever steps the calls under way, of whichever seats and in whatever order, comes to an end within the bound on the steps
-/// that are left.
+/// Whoever steps the pending calls, of whichever seats and in whatever order, comes to an end within the bound on the
+/// steps that are left.
 pub fn steps_are_few()
     ensures { StepsAreFew }
 {}
 
-/// All calls under way can be stepped to their ends, also those whose callers have left.
+/// All pending calls can be stepped to their ends, also those whose callers have left.
 pub fn calls_can_end()
     ensures { CallsCanEnd }
 {}

@@ -54,7 +54,7 @@ fn push_both(
     words.push_path(alloc, paths_of(call).1)
 }
 
-/// Adds what a call changed that did what it says, by what stood at its last path before.
+/// Adds what a call changed that did what it says, by what was at its last path before.
 fn push_done(
     alloc: Global,
     call: &Call,

@@ -107,7 +107,7 @@ fn push_line(
     text.push(b"\n")
 }
 
-/// Adds the line of a begin, which stands behind so many entries.
+/// Adds the line of a begin, which comes after so many entries.
 fn push_begin(
     alloc: Global,
     at: usize,
@@ -125,7 +125,7 @@ fn push_begin(
     push_line(at + 1, &who, number, b" begins ", &words, text)
 }
 
-/// Adds the line of a commit, which stands behind so many entries.
+/// Adds the line of a commit, which comes after so many entries.
 fn push_commit(
     alloc: Global,
     past: &mut Past,
@@ -143,7 +143,7 @@ fn push_commit(
     push_line(at + 1, &who, number, b" commits, ", &effect, text)
 }
 
-/// Adds the line of a return, which stands behind so many entries.
+/// Adds the line of a return, which comes after so many entries.
 fn push_return(
     alloc: Global,
     past: &Past,
@@ -162,7 +162,7 @@ fn push_return(
     push_line(at + 1, &who, number, b" returns ", &words, text)
 }
 
-/// Adds the line of an entry, which stands behind so many.
+/// Adds the line of an entry, which comes after so many.
 fn push_entry(
     alloc: Global,
     past: &mut Past,

@@ -79,7 +79,7 @@ fn front_by(verdict: &Verdict, entries: Vec<Entry>) -> Vec<Entry>
     }
 }
 
-/// Adds what stands in the trace of entries: lines, a tree, and the counts.
+/// Adds the trace of entries: lines, a tree, and the counts.
 fn push_trace(
     lines: &[u8],
     left: &[u8],
@@ -97,7 +97,7 @@ fn push_trace(
     push_counts(counts_of(entries), text)
 }
 
-/// The trace of entries from a tree, behind which another tree stands.
+/// The trace of entries from a tree, after which comes another tree.
 fn text_of(
     alloc: Global,
     start: SeqTree,
@@ -113,7 +113,7 @@ fn text_of(
     Ok(text.kept())
 }
 
-/// The trace of a journal, behind which the tree of its commits stands.
+/// The trace of a journal, after which comes the tree of its commits.
 fn text_in(alloc: Global, text: &[u8], tree: &[u8]) -> Result<Vec<u8>, RunFault>
     ensures traced { (well : Bool) → IsReplayOf Schedule.Given text.now question.Whole well tree.now → IfOk result (λ made. IsTraceOfJournal text.now well made.items) }
     ensures fault { IfErr result (IsFaultOf (verdict_of text.now)) }
@@ -198,10 +198,10 @@ fn trace_text(
     }
 }
 
-/// Reads a script to its end, runs it by a schedule and writes the trace of its run, as `trace_script` does; or reads a journal, and
-/// writes a line for each of its entries, of one that is not lawful up to its first fault, and the end of a run's text behind them.
-/// The text is made before its first byte is written. The answer is whether each call of the script returned, or the journal is
-/// lawful, and the journal's fault in words.
+/// Reads a script to its end, runs it with a schedule and writes the trace of its run, as `trace_script` does. Or reads
+/// a journal, and writes a line for each of its entries, up to the first fault if it is not lawful, and then the end of
+/// a run's text. The text is made before its first byte is written. The answer is whether each call of the script
+/// returned, or the journal is lawful, and the journal's fault in words.
 pub fn trace_input<R: Source, W: Sink>(
     alloc: Global,
     reader: &mut R,

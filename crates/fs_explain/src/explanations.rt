@@ -70,7 +70,7 @@ ThreadTwice: the thread has a block already (scripts only)
 
 In a script, for    thread t
 write               thread u
-because             all calls of a thread stand in one block
+because             all calls of a thread are in one block
 ";
 
 const BAD_PATH: &str = "\
@@ -170,7 +170,7 @@ because             a script without events has an empty schedule
 ";
 
 const BAD_WORD: &str = "\
-BadWord: a schedule word of another form, of an unknown thread, with a number outside 1 to 1,000,000, or after `finish` (scripts only)
+BadWord: a schedule word of another form, of an unknown thread, with a number outside 1 to 1,000,000, or after `finish` or `!drawn` (scripts only)
 
 In a script, for    u*9 finish
 write               t*9 finish
@@ -237,7 +237,7 @@ const BEGIN_TWICE: &str = "\
 BeginTwice: a call of this number began before
 
 next                atomfs check < FILE
-it tells            the line of the entry, and the begin before it
+it says             the line of the entry, and the begin before it
 
 next                atomfs draw --around CALL < FILE > run.svg
 it shows            the call of the entry, and those that overlap it
@@ -247,7 +247,7 @@ const SEAT_BUSY: &str = "\
 SeatBusy: the seat's last call has not returned
 
 next                atomfs check < FILE
-it tells            the line of the entry, and the begin of the call that has not returned
+it says             the line of the entry, and the begin of the call that has not returned
 
 next                atomfs draw --around CALL < FILE > run.svg
 it shows            the call of the entry, and those that overlap it
@@ -257,7 +257,7 @@ const COMMIT_UNBEGUN: &str = "\
 CommitUnbegun: no call of this number has begun
 
 next                atomfs check < FILE
-it tells            the line of the entry, and that no call of its number has begun
+it says             the line of the entry, and that no call of its number has begun
 
 next                atomfs draw --around CALL < FILE > run.svg
 it shows            the call of the entry, and those that overlap it
@@ -267,7 +267,7 @@ const COMMIT_TWICE: &str = "\
 CommitTwice: the call has committed before
 
 next                atomfs check < FILE
-it tells            the line of the entry, its call, and the commit before it
+it says             the line of the entry, its call, and the commit before it
 
 next                atomfs draw --around CALL < FILE > run.svg
 it shows            the call of the entry, and those that overlap it
@@ -277,7 +277,7 @@ const RETURN_UNCOMMITTED: &str = "\
 ReturnUncommitted: the call has not committed, or never began
 
 next                atomfs check < FILE
-it tells            the line of the entry, and its call
+it says             the line of the entry, and its call
 
 next                atomfs draw --around CALL < FILE > run.svg
 it shows            the call of the entry, and those that overlap it
@@ -287,7 +287,7 @@ const RETURN_TWICE: &str = "\
 ReturnTwice: the call has returned before
 
 next                atomfs check < FILE
-it tells            the line of the entry, its call, and the return before it
+it says             the line of the entry, its call, and the return before it
 
 next                atomfs draw --around CALL < FILE > run.svg
 it shows            the call of the entry, and those that overlap it
@@ -297,7 +297,7 @@ const WRONG_REPLY: &str = "\
 WrongReply: the reply differs from the one that is due: what the sequential tree replies after the calls committed before
 
 next                atomfs check < FILE
-it tells            the line of the entry, its call, and the reply that is due
+it says             the line of the entry, its call, and the reply that is due
 
 next                atomfs draw --around CALL < FILE > run.svg
 it shows            the call of the entry, and those that overlap it
@@ -307,14 +307,14 @@ const RETURN_UNBEGUN: &str = "\
 ReturnUnbegun: no call of this number has begun
 
 next                atomfs linearize < FILE
-it tells            the line of the entry, and that no call of its number has begun
+it says             the line of the entry, and that no call of its number has begun
 ";
 
 const NO_ORDER: &str = "\
 none: no journal explains the entries up to that return; one explains those before it
 
 next                atomfs linearize < FILE
-it tells            the line of the return, its call, and what that could have replied
+it says             the line of the return, its call, and what that could have replied
 
 next                atomfs linearize --front < FILE | atomfs draw > run.svg
 it shows            a journal that explains the entries before the return, and the return

@@ -20,7 +20,7 @@ use Rattle.fs_find.specs.declared.fault.FindFault.TheVariants.{Schedule}
 use Rattle.fs_find.specs.declared.what.Clause.{Clause}
 
 -- one run more that is so
-pub each_more : (b : Bool) (script : Script) (what : List Clause) (seed run : ℕ) → ((k : ℕ) → seed ≤ k → k < seed + run → RunHas (Seeded k) script what b) → RunHas (Seeded (seed + run)) script what b
+pub each_more : (b : Bool) (script : Script) (what : List (List Clause)) (seed run : ℕ) → ((k : ℕ) → seed ≤ k → k < seed + run → RunHas (Seeded k) script what b) → RunHas (Seeded (seed + run)) script what b
     → (k : ℕ) → seed ≤ k → k < seed + (run + 1) → RunHas (Seeded k) script what b
 each_more b script what seed run each this k low high = go (ltb k (seed + run)) refl
   where
@@ -60,7 +60,7 @@ of_drawn n input faults.Full is = is
 of_drawn n input (faults.UnderWay c) (script, is, stop) = absurd (never_under_way n script c stop)
 
 -- the run that was found is not written
-pub of_found : (what : List Clause) (seed runs : ℕ) (input : List ℕ) (script : Script) (found : Option ℕ) (fault : ScheduleFault) → script_of input ≡ Ok script → IsFound script what seed runs found → IsNotWritten input found fault → IsFaultOfFind what seed runs input (Schedule fault)
+pub of_found : (what : List (List Clause)) (seed runs : ℕ) (input : List ℕ) (script : Script) (found : Option ℕ) (fault : ScheduleFault) → script_of input ≡ Ok script → IsFound script what seed runs found → IsNotWritten input found fault → IsFaultOfFind what seed runs input (Schedule fault)
 of_found what seed runs input script None fault is first none = absurd none
 of_found what seed runs input script (Some n) (Run fault) is first none = of_drawn n input fault none
 of_found what seed runs input script (Some n) TooManyEvents is first none = (script, is, n, first, none)

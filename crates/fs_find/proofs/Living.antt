@@ -20,7 +20,7 @@ moment_more (Ok x) old new before m told is = is ∙ ap (λ (l : Lived). with_mo
 moment_more (Err e) old new before m told is = tt
 
 -- what is said of what was told is said of the run
-pub run_answers : (schedule : Schedule) (script : Script) (what : List Clause) (b : Bool) (old new : Lived) (ran : Ran) → old ≡ unlived
+pub run_answers : (schedule : Schedule) (script : Script) (what : List (List Clause)) (b : Bool) (old new : Lived) (ran : Ran) → old ≡ unlived
     → Watches (λ (first : Lived) l ms. l ≡ lived ms) schedule script old ran new → Has script.names new (graph_of ran.core.store) what b → RunHas schedule script what b
 run_answers schedule script what b old new ran none w has =
     let told : new ≡ lived w.moments = w.hears old [] none in

@@ -18,11 +18,11 @@ status_of_find (Schedule fault) = status_of_schedule fault
 status_of_find NoCall = 2
 
 -- there is a first run that has what is said, and the script has no room for its events
-abbrev pub LacksRoom : List Clause → ℕ → ℕ → List ℕ → ScheduleFault → Type 0
+abbrev pub LacksRoom : List (List Clause) → ℕ → ℕ → List ℕ → ScheduleFault → Type 0
 LacksRoom what seed runs input fault = (script : Script) × (script_of input ≡ Ok script) × (n : ℕ) × IsFirst script what seed runs n × IsFaultOfSchedule (Seeded n) input fault
 
 -- why nothing is written of a search; a drawn run stops only for want of memory
-abbrev pub IsFaultOfFind : List Clause → ℕ → ℕ → List ℕ → FindFault → Type 0
+abbrev pub IsFaultOfFind : List (List Clause) → ℕ → ℕ → List ℕ → FindFault → Type 0
 IsFaultOfFind what seed runs input (Schedule (Run fault)) = IsFaultOf (script_of input) fault
 IsFaultOfFind what seed runs input (Schedule TooManyEvents) = LacksRoom what seed runs input TooManyEvents
 IsFaultOfFind what seed runs input (Schedule TooLong) = LacksRoom what seed runs input TooLong

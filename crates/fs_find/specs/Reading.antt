@@ -121,26 +121,30 @@ abbrev pub clause_of : List Word → Result Clause WhatFault
 clause_of [] = Err BadWords
 clause_of (first ∷ more) = if bytes_eq first (codes "not") then clause_with true more else clause_with false (first ∷ more)
 
--- the word between two clauses
-abbrev pub is_and : Word → Bool
-is_and word = bytes_eq word (codes "and")
+-- a word is a certain one
+abbrev pub is_same : List ℕ → Word → Bool
+is_same wanted word = bytes_eq word wanted
 
--- the clauses of these groups of words, from left to right
-abbrev pub each_of : List (List Word) → Result (List Clause) WhatFault
-each_of [] = Ok []
-each_of (group ∷ more) = clause_of group >>= λ c. each_of more >>= λ cs. Ok (c ∷ cs)
+-- what these groups of words say, from left to right
+abbrev pub each_of : {X : Type 0} → (List Word → Result X WhatFault) → List (List Word) → Result (List X) WhatFault
+each_of said [] = Ok []
+each_of said (group ∷ more) = said group >>= λ x. each_of said more >>= λ xs. Ok (x ∷ xs)
 
--- those between two words `and`
+-- clauses, with a word `and` between two
 unfoldable pub clauses_of : List Word → Result (List Clause) WhatFault
-clauses_of words = each_of (slice_split is_and words)
+clauses_of words = each_of clause_of (slice_split (is_same (codes "and")) words)
 
--- the clauses that the words of a line say
-abbrev pub said_of : Result (List Word) FaultKind → Result (List Clause) WhatFault
-said_of (Ok words) = clauses_of words
+-- alternatives, with a word `or` between two
+unfoldable pub alternatives_of : List Word → Result (List (List Clause)) WhatFault
+alternatives_of words = each_of clauses_of (slice_split (is_same (codes "or")) words)
+
+-- what the words of a line say
+abbrev pub said_of : Result (List Word) FaultKind → Result (List (List Clause)) WhatFault
+said_of (Ok words) = alternatives_of words
 said_of (Err k) = Err BadWords
 
--- the clauses that a text of one line says
-abbrev pub what_of : List ℕ → Result (List Clause) WhatFault
+-- what a text of one line says
+abbrev pub what_of : List ℕ → Result (List (List Clause)) WhatFault
 what_of text = if list_any is_line_feed text then Err BadWords else said_of (words_of text)
 
 -- ---- faults

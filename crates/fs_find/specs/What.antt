@@ -103,9 +103,14 @@ abbrev pub IsClause : List (List ℕ) → Lived → Graph → Bool → Clause �
 IsClause names l graph b clause = Answers names l graph clause.condition (if clause.negated then not b else b)
 
 -- all clauses hold; or one does not
-abbrev pub Has : List (List ℕ) → Lived → Graph → List Clause → Bool → Type 0
-Has names l graph clauses true = All (IsClause names l graph true) clauses
-Has names l graph clauses false = Any (IsClause names l graph false) clauses
+abbrev pub HasAll : List (List ℕ) → Lived → Graph → Bool → List Clause → Type 0
+HasAll names l graph true clauses = All (IsClause names l graph true) clauses
+HasAll names l graph false clauses = Any (IsClause names l graph false) clauses
+
+-- of one alternative all clauses hold; or of each one does not
+abbrev pub Has : List (List ℕ) → Lived → Graph → List (List Clause) → Bool → Type 0
+Has names l graph what true = Any (HasAll names l graph true) what
+Has names l graph what false = All (HasAll names l graph false) what
 
 -- ---- whether its calls are there
 
@@ -129,5 +134,9 @@ has_calls script (Before call other) = is_there script call && is_there script o
 has_calls script (Overlap call other) = is_there script call && is_there script other
 
 -- and those of all clauses
-abbrev pub names_calls : Script → List Clause → Bool
-names_calls script clauses = list_all (λ (c : Clause). has_calls script c.condition) clauses
+abbrev pub clauses_name_calls : Script → List Clause → Bool
+clauses_name_calls script clauses = list_all (λ (c : Clause). has_calls script c.condition) clauses
+
+-- of all alternatives
+abbrev pub names_calls : Script → List (List Clause) → Bool
+names_calls script what = list_all (clauses_name_calls script) what

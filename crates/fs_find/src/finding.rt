@@ -16,7 +16,7 @@ ghost use Rattle.fs_find.specs.code.Mades.{IsNotWritten, MakesFound};
 use crate::fault::FindFault;
 use crate::having::has;
 use crate::lives::Lives;
-use crate::what::{Clause, names_calls};
+use crate::what::{Clauses, names_calls};
 use fs_io::{Made, Sink, Source, transform};
 use fs_sched::{RunFault, SEED_LIMIT, Schedule, Witness, between, script_in, watch};
 use fs_script::Script;
@@ -31,7 +31,7 @@ pub fn run_has(
     alloc: Global,
     script: &Script,
     schedule: Schedule,
-    what: &[Clause],
+    what: &[Clauses],
 ) -> Result<bool, RunFault>
     requires few { calls_in script.now.lists ≤ call_limit script.now.limits }
     ensures has { IfOk result (RunHas schedule script.now what.now) }
@@ -53,7 +53,7 @@ pub fn run_has(
 pub fn first_seed<Listener: Witness>(
     alloc: Global,
     script: &Script,
-    what: &[Clause],
+    what: &[Clauses],
     wanted: bool,
     seed: u64,
     runs: u64,
@@ -93,7 +93,7 @@ fn text_of_found(alloc: Global, text: &[u8], found: Option<u64>) -> Result<Vec<u
 fn found_in<Listener: Witness>(
     alloc: Global,
     text: &[u8],
-    what: &[Clause],
+    what: &[Clauses],
     seed: u64,
     runs: u64,
     witness: &mut Listener,
@@ -122,7 +122,7 @@ pub fn find_seed<R: Source, W: Sink, Listener: Witness>(
     alloc: Global,
     reader: &mut R,
     writer: &mut W,
-    what: &[Clause],
+    what: &[Clauses],
     seed: u64,
     runs: u64,
     witness: &mut Listener,

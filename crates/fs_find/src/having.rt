@@ -6,10 +6,10 @@ ghost use Rattle.std.specs.Str.{bytes_eq};
 ghost use Rattle.fs_nodes.specs.Stores.{graph_of};
 ghost use Rattle.fs_words.specs.Lines.{lines_of};
 ghost use Rattle.fs_find.specs.Lives.{nth_from};
-ghost use Rattle.fs_find.specs.What.{index_of, reply_of, is_reply, is_failure, was_helped, began, returned, is_left, is_wait_of, has_wait, has_waited, is_together, do_overlap, is_before, IsTreeLine, Answers, IsClause, Has};
+ghost use Rattle.fs_find.specs.What.{index_of, reply_of, is_reply, is_failure, was_helped, began, returned, is_left, is_wait_of, has_wait, has_waited, is_together, do_overlap, is_before, IsTreeLine, Answers, IsClause, HasAll, Has};
 
 use crate::lives::Lives;
-use crate::what::{CallName, Clause, Condition};
+use crate::what::{CallName, Clause, Clauses, Condition};
 use fs_calls::Reply;
 use fs_nodes::Store;
 use fs_script::{ThreadNames, write_tree};
@@ -234,19 +234,37 @@ fn holds(
 }
 
 /// Whether all clauses hold of a run.
-pub(crate) fn has(
+fn has_all(
     alloc: Global,
     names: &ThreadNames,
     lives: &Lives,
     store: &Store,
-    what: &[Clause],
+    clauses: &[Clause],
 ) -> Result<bool, AllocError>
-    ensures { IfOk result (Has names.now lives.now (graph_of store.now) what.now) }
+    ensures { IfOk result (λ b. HasAll names.now lives.now (graph_of store.now) b clauses.now) }
 {
-    for clause in what {
+    for clause in clauses {
         if !holds(alloc, names, lives, store, clause)? {
             return Ok(false);
         }
     }
     Ok(true)
+}
+
+/// Whether a run has what is said: all clauses of an alternative hold of it.
+pub(crate) fn has(
+    alloc: Global,
+    names: &ThreadNames,
+    lives: &Lives,
+    store: &Store,
+    what: &[Clauses],
+) -> Result<bool, AllocError>
+    ensures { IfOk result (Has names.now lives.now (graph_of store.now) what.now) }
+{
+    for clauses in what {
+        if has_all(alloc, names, lives, store, clauses.as_slice())? {
+            return Ok(true);
+        }
+    }
+    Ok(false)
 }

@@ -1,11 +1,12 @@
-//! The runners that search runs of a script for what is said of them.
+//! The runners that search the runs of a script for one that has what is asked for.
 //!
-//! `find_seed` reads a script and plays drawn runs, from a number on, up to the first that has what `Clause`s say: a reply, a
-//! line of the tree at the end, a helped call, the order of two commits. It writes the script with that run as its words.
-//! `read_what` reads the clauses from words.
+//! `find_seed` reads a script and plays drawn runs, from a number on, up to the first that has what `Clause`s say. A clause asks for a
+//! reply, a line of the tree at the end, a helped call, or the order of two commits. `find_seed` writes the script with that run as its
+//! words. `read_what` reads the clauses from words.
 //!
-//! Enter at these two. The definitions are in `specs/`: `Lives` (what a run tells of its calls), `What` (when a run has
-//! something), `Finds` and `Faults`; `Reading` has the words; `docs/FORMATS.md` has these for readers. `specs/code/` ties the code to them, and changes no meaning.
+//! Enter at these two. The definitions are in `specs/`: `Lives` (what a run shows of its calls), `What` (when a run has something),
+//! `Finds` and `Faults`. `Reading` has the words, and `docs/COMMANDS.md` has these for readers. `specs/code/` ties the code to them, and
+//! changes no meaning.
 #![tactic(auto)]
 
 mod copying;
@@ -20,4 +21,4 @@ pub use copying::copy_of_reply;
 pub use fault::FindFault;
 pub use finding::{SEARCH_LIMIT, find_seed, first_seed, run_has};
 pub use reading::{WhatFault, read_what};
-pub use what::{CallName, Clause, Condition, names_calls};
+pub use what::{CallName, Clause, Clauses, Condition, names_calls};

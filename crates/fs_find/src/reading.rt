@@ -2,14 +2,14 @@
 
 ghost use Rattle.std.specs.Prelude.{◌≡◌, ◌<◌, ◌≤◌, ◌+◌, take, drop, length, ◌++◌, ◌∷◌, [], List, map, position, codes, OnOk, IfOk, IfErr, Ok};
 ghost use Rattle.std.specs.List.{flat_map, list_any, position_or_len};
-ghost use Rattle.fs_find.specs.Reading.{is_hash, is_memory, joined, entries_behind, said_of, call_of, numbered, return_text, only_reply, reply_of, is_failed, returned_of, reply_words_of, is_path, is_node, line_of, helped_of, waits_of, before_of, overlap_of, condition_of, clause_with, clause_of, is_and, clauses_of, what_of};
+ghost use Rattle.fs_find.specs.Reading.{is_hash, is_memory, joined, entries_behind, said_of, call_of, numbered, return_text, only_reply, reply_of, is_failed, returned_of, reply_words_of, is_path, is_node, line_of, helped_of, waits_of, before_of, overlap_of, condition_of, clause_with, clause_of, is_same, clauses_of, alternatives_of, what_of};
 ghost use Rattle.fs_words.specs.Lines.{is_line_feed};
 ghost use Rattle.fs_words.specs.Reading.{words_of};
 ghost use Rattle.fs_words.specs.code.Answers.{GivesText};
 ghost use Rattle.fs_find.specs.code.Answers.{Says};
 
 use crate::copying::copy_of_reply;
-use crate::what::{CallName, Clause, Condition};
+use crate::what::{CallName, Clause, Clauses, Condition};
 use fs_calls::Reply;
 use fs_names::{Bytes, Limits};
 use fs_text::entries_in;
@@ -27,8 +27,8 @@ pub enum WhatFault {
     /// An allocation failed.
     #[error("out of memory")]
     OutOfMemory,
-    /// They are no conditions with `and` between them.
-    #[error("write `reply CALL REPLY`, `tree LINE`, `helped CALL`, `waits CALL`, `before CALL CALL` or `overlap CALL CALL`, each also behind `not`, with `and` between two")]
+    /// They are no conditions with `and` or `or` between them.
+    #[error("write `reply CALL REPLY`, `tree LINE`, `helped CALL`, `waits CALL`, `before CALL CALL` or `overlap CALL CALL`, each also after `not`, with `and` or `or` between two")]
     BadWords,
     /// A word is no call.
     #[error("a CALL is the name of a thread, `#` and a number from 1")]
@@ -336,13 +336,13 @@ fn clause_of(alloc: Global, words: &[&[u8]]) -> Result<Clause, WhatFault>
     }
 }
 
-/// Where the first word `and` stands; the number of words where there is none.
-fn and_in(words: &[&[u8]]) -> usize
-    ensures at { result ≡ position_or_len is_and (map (λ w. w.now) words.now) }
+/// The place of the first of these words that is a certain one; if none is, the number of words.
+fn place_of(words: &[&[u8]], wanted: &[u8]) -> usize
+    ensures at { result ≡ position_or_len (is_same wanted.now) (map (λ w. w.now) words.now) }
     ensures within { result ≤ length words.now }
 {
     for at in 0..words.len() {
-        if is_word(words[at], b"and") {
+        if is_word(words[at], wanted) {
             return at;
         }
     }
@@ -363,14 +363,14 @@ fn behind<'w, 'a>(words: &'w [&'a [u8]], at: usize) -> &'w [&'a [u8]]
     &words[at + 1..]
 }
 
-/// The clauses that words say.
+/// The clauses that words say, with `and` between two.
 fn clauses_of(alloc: Global, words: &[&[u8]]) -> Result<Vec<Clause>, WhatFault>
     ensures { Says (λ clauses. clauses.items) result (clauses_of (map (λ w. w.now) words.now)) }
 {
     let mut clauses = Vec::new(alloc);
     let mut rest = words;
     'clauses: loop {
-        let end = and_in(rest);
+        let end = place_of(rest, b"and");
         let clause = clause_of(alloc, front(rest, end))?;
         push_clause(clause, &mut clauses)?;
         if end == rest.len() {
@@ -390,30 +390,58 @@ fn push_clause(clause: Clause, clauses: &mut Vec<Clause>) -> Result<(), WhatFaul
     }
 }
 
+/// The alternatives that words say, with `or` between two.
+fn alternatives_of(alloc: Global, words: &[&[u8]]) -> Result<Vec<Clauses>, WhatFault>
+    ensures { Says (λ what. what.items) result (alternatives_of (map (λ w. w.now) words.now)) }
+{
+    let mut what = Vec::new(alloc);
+    let mut rest = words;
+    'alternatives: loop {
+        let end = place_of(rest, b"or");
+        let clauses = clauses_of(alloc, front(rest, end))?;
+        push_clauses(clauses, &mut what)?;
+        if end == rest.len() {
+            return Ok(what);
+        }
+        rest = behind(rest, end);
+    }
+}
+
+fn push_clauses(clauses: Vec<Clause>, what: &mut Vec<Clauses>) -> Result<(), WhatFault>
+    ensures ok { OnOk result (what.new.items ≡ what.old.items ++ clauses.items ∷ []) }
+    ensures err { IfErr result (λ fault. fault ≡ WhatFault.OutOfMemory) }
+{
+    match what.push(Clauses::new(clauses)) {
+        Ok(()) => Ok(()),
+        Err(_) => Err(WhatFault::OutOfMemory),
+    }
+}
+
 fn has_feed(text: &[u8]) -> bool
     ensures { result ≡ list_any is_line_feed text.now }
 {
     text.iter().any(|byte| *byte == b'\n')
 }
 
-/// The clauses that a line says.
-fn clauses_in(alloc: Global, line: &[u8]) -> Result<Vec<Clause>, WhatFault>
-    ensures { Says (λ clauses. clauses.items) result (said_of (words_of line.now)) }
+/// What a line says.
+fn what_in(alloc: Global, line: &[u8]) -> Result<Vec<Clauses>, WhatFault>
+    ensures { Says (λ what. what.items) result (said_of (words_of line.now)) }
 {
     let mut words = Vec::new(alloc);
     match cut_words(line, &mut words) {
-        Ok(()) => clauses_of(alloc, words.as_slice()),
+        Ok(()) => alternatives_of(alloc, words.as_slice()),
         Err(kind) if is_memory(kind) => Err(WhatFault::OutOfMemory),
         Err(_) => Err(WhatFault::BadWords),
     }
 }
 
-/// The clauses that a text says: conditions with `and` between two, each also behind `not`. It is one line.
-pub fn read_what(alloc: Global, text: &[u8]) -> Result<Vec<Clause>, WhatFault>
-    ensures { Says (λ clauses. clauses.items) result (what_of text.now) }
+/// What a text of one line says of a run: conditions with `and` or `or` between two, of which `and` binds more tightly, and `not`
+/// before any of them.
+pub fn read_what(alloc: Global, text: &[u8]) -> Result<Vec<Clauses>, WhatFault>
+    ensures { Says (λ what. what.items) result (what_of text.now) }
 {
     if has_feed(text) {
         return Err(WhatFault::BadWords);
     }
-    clauses_in(alloc, text)
+    what_in(alloc, text)
 }

@@ -3,12 +3,12 @@
 ghost use Rattle.std.specs.Prelude.{◌≡◌, Some, None, nat_le, length, get_or, ◌&&◌};
 ghost use Rattle.std.specs.List.{list_all};
 ghost use Rattle.fs_script.specs.declared.script.Script.{Script};
-ghost use Rattle.fs_find.specs.What.{is_there, has_calls, names_calls};
+ghost use Rattle.fs_find.specs.What.{is_there, has_calls, clauses_name_calls, names_calls};
 
 use fs_calls::Reply;
 use fs_names::Bytes;
 use fs_script::Script;
-use std::alloc::Global;
+use std::marker::Model;
 
 /// A call of a script: the name of its thread, and its place in the block of that, from 1.
 #[derive(Drop)]
@@ -43,6 +43,37 @@ pub struct Clause {
     pub condition: Condition,
 }
 
+/// Clauses that a run has together: an alternative of what is said of it. They are seen as their list.
+#[derive(Drop)]
+pub struct Clauses {
+    items: Vec<Clause>,
+}
+
+impl Model for Clauses {
+    ghost use Rattle.std.specs.Prelude.{List};
+    ghost use Rattle.fs_find.specs.declared.what.Clause.{Clause};
+
+    ghost Value = { List Clause };
+
+    ghost view = { λ c. c.items.items };
+}
+
+impl Clauses {
+    /// The clauses of a vector, which is kept and not copied.
+    pub fn new(items: Vec<Clause>) -> Clauses
+        ensures { result ≡ items.items }
+    {
+        Clauses { items }
+    }
+
+    /// The clauses, in order.
+    pub fn as_slice(&self) -> &[Clause]
+        ensures { result.now ≡ self.now }
+    {
+        self.items.as_slice()
+    }
+}
+
 /// Whether a script has the call.
 fn is_there(script: &Script, call: &CallName) -> bool
     ensures { result ≡ is_there script.now call.now }
@@ -69,9 +100,18 @@ fn has_calls(script: &Script, condition: &Condition) -> bool
 }
 
 /// Whether a script has each call that clauses name.
-pub fn names_calls(script: &Script, what: &[Clause]) -> bool
+fn clauses_name_calls(script: &Script, clauses: &[Clause]) -> bool
+    ensures { result ≡ clauses_name_calls script.now clauses.now }
+{
+    clauses
+        .iter()
+        .all(|clause| has_calls(script, &clause.condition))
+}
+
+/// Whether a script has each call that is named.
+pub fn names_calls(script: &Script, what: &[Clauses]) -> bool
     ensures { result ≡ names_calls script.now what.now }
 {
     what.iter()
-        .all(|clause| has_calls(script, &clause.condition))
+        .all(|clauses| clauses_name_calls(script, clauses.as_slice()))
 }

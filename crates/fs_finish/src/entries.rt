@@ -51,7 +51,8 @@ pub fn kind_of(entry: EntryCall) -> Option<Kind>
     calls!(kinds(entry))
 }
 
-/// Why a call on an entry fails at a node that should be its directory, by these limits and what the name stands for there.
+/// Why a call on an entry fails at a node that should be its directory, under these limits and with what the name leads
+/// to there.
 fn fault(
     store: &Store,
     limits: Limits,
@@ -91,7 +92,8 @@ macro_rules! entry_plans {
     };
 }
 
-/// What a call on an entry does at a node that should be its directory, by these limits and what the name stands for there.
+/// What a call on an entry does at a node that should be its directory, under these limits and with what the name leads
+/// to there.
 pub fn entry_plan(
     store: &Store,
     limits: Limits,
@@ -108,8 +110,8 @@ pub fn entry_plan(
     calls!(entry_plans(entry, dir))
 }
 
-/// A node gets an entry of this name, by what was prepared for its copy. It stands apart, so that the finish of other calls has no
-/// name on its stack.
+/// A node gets an entry of this name, with what was prepared for its copy. This is a function of its own, so that the
+/// finish of other calls has no name on its stack.
 #[inline(never)]
 fn enter(store: &mut Store, dir: NodeNo, name: &Name, prepared: Room, node: NodeNo)
     requires room { FitsName name.now prepared }

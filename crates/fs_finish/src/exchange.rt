@@ -17,7 +17,8 @@ use fs_calls::rows::PairSight;
 use fs_names::Name;
 use fs_nodes::{NodeNo, Store};
 
-/// What an exchange does, by what stands for both names in the two directories. No directory gets an entry more, so each has room.
+/// What an exchange does, by what both names lead to in the two directories. No directory gets an entry more, so each
+/// has room.
 pub fn exchange_plan(
     store: &Store,
     one: Option<NodeNo>,

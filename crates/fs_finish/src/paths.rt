@@ -1,4 +1,4 @@
-//! The paths of a call, the name that it may give to an entry, and how the paths of a call on two entries stand to each other.
+//! The paths of a call, the name that it may give to an entry, and how the paths of a call on two entries relate.
 
 ghost use Rattle.std.specs.Prelude.{ℕ, ◌≡◌};
 ghost use Rattle.std.specs.Option.{option_copied};
@@ -53,7 +53,7 @@ pub fn new_name<'a>(aim: Target<'a>) -> Option<&'a Name>
     }
 }
 
-/// How the paths of a call on two entries stand to each other.
+/// How the paths of a call on two entries relate.
 #[derive(Clone, Copy, Debug, PartialEq, Eq)]
 pub struct Paths {
     /// Both are the same.
@@ -65,7 +65,7 @@ pub struct Paths {
 }
 
 impl Paths {
-    /// How a path and the second one stand to each other.
+    /// How a path and the second one relate.
     pub fn new(path: &Path, new_path: &Path) -> Paths
         ensures same { result.same ≡ is_end (after_prefix path.now new_path.now) }
         ensures above { result.above ≡ is_proper_prefix new_path.now path.now }

@@ -25,7 +25,7 @@ use fs_calls::{PairCall, Sight};
 use fs_names::{Limits, Name};
 use fs_nodes::{NodeNo, Store};
 
-/// What the row of a rename asks, by these limits and what stands for both names in the two directories.
+/// What the row of a rename asks, under these limits and with what both names lead to in the two directories.
 fn sights(
     store: &Store,
     limits: Limits,
@@ -51,7 +51,7 @@ fn sights(
     }
 }
 
-/// What a rename does, by these limits and what stands for both names in the two directories.
+/// What a rename does, under these limits and with what both names lead to in the two directories.
 pub fn rename_plan(
     store: &Store,
     limits: Limits,
@@ -95,8 +95,8 @@ fn clear(store: &mut Store, dir: NodeNo, name: &Name, is_there: bool)
     }
 }
 
-/// An entry goes to another directory, or to another name, by what was prepared for the copy of that. It stands apart, so that the
-/// finish of other calls has no name on its stack.
+/// An entry goes to another directory, or to another name, with what was prepared for the copy of that. This is a
+/// function of its own, so that the finish of other calls has no name on its stack.
 #[inline(never)]
 fn relocate(
     store: &mut Store,

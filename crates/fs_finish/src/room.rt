@@ -100,9 +100,10 @@ pub enum Room {
 /// For how many times as many bytes as it writes a write makes room beside them, at the most.
 const SPARE: u64 = 64;
 
-/// Room for the new bytes of a file, unless they are more than the most. A write behind the start of a file makes room for as many bytes
-/// again as stand before it, up to the most, and no more than it may by what it writes: so a file that grows piece by piece
-/// is copied a few times, and one that gets a few bytes far behind its start has little room beside its bytes.
+/// Room for the new bytes of a file, unless they are more than the most. A write after the start of a file makes room
+/// for as many bytes again as come before it, up to the most, and no more than what it writes allows. So a file that
+/// grows piece by piece is copied a few times, and one that gets a few bytes far after its start has little room beside
+/// its bytes.
 fn content(
     alloc: Global,
     memory: &mut Memory,
@@ -122,7 +123,7 @@ fn content(
     Ok(Room::Content(ByteRoom::new(alloc, memory, (len + spare) as usize)?))
 }
 
-/// What a write of so many bytes into a file in blocks may use, unless it ends behind the most.
+/// What a write of so many bytes into a file in blocks may use, unless it ends after the most.
 fn blocks_for_write(
     alloc: Global,
     memory: &mut Memory,

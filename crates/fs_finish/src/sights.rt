@@ -8,7 +8,7 @@ ghost use Rattle.fs_calls.specs.code.Seen.{sight};
 use fs_calls::Sight;
 use fs_nodes::{NodeNo, Store};
 
-/// What stands at a number.
+/// What is at a number.
 pub fn sight_of(store: &Store, node: NodeNo) -> Sight
     ensures { result ≡ sight (shape store.now node) }
 {
@@ -21,7 +21,7 @@ pub fn sight_of(store: &Store, node: NodeNo) -> Sight
     Sight::Nothing
 }
 
-/// What stands where a name leads, if it leads anywhere.
+/// What is at the place where a name leads, if it leads anywhere.
 pub fn sight_at(store: &Store, there: Option<NodeNo>) -> Sight
     ensures { result ≡ sight (then_at there (shape store.now)) }
 {

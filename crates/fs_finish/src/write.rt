@@ -55,7 +55,8 @@ fn taken_out(store: &mut Store, file: NodeNo, len: usize, buffer: ByteRoom) -> V
     with_room(store.swap_content(file, none), len, buffer)
 }
 
-/// Puts bytes over those of a vector from an offset on, and behind them what is more; a gap is filled with zeros.
+/// Puts bytes over those of a vector from an offset on, and adds those that are more after them; a gap is filled with
+/// zeros.
 fn put_over(content: &mut Vec<u8>, off: usize, bytes: &[u8])
     requires room { off + length bytes.now ≤ vec_capacity content.old }
     ensures { content.new.items ≡ written content.old.items off bytes.now }

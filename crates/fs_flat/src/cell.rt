@@ -1,33 +1,43 @@
 //! Entries of a tree, which copies share.
 
-ghost use Rattle.std.specs.Prelude.{◌≡◌, ◌↔◌, true, IfOk};
+ghost use Rattle.std.specs.Prelude.{◌≡◌, ◌↔◌, true, length, option_copied, IfOk};
 ghost use Rattle.fs_calls.specs.Replies.{same_kind};
-ghost use Rattle.fs_names.specs.Names.{same_bytes};
-ghost use Rattle.fs_rows.specs.Rows.{row_of};
-ghost use Rattle.fs_flat.specs.code.Cells.{kind_of, bytes_at};
+ghost use Rattle.fs_rows.specs.Rows.{node_of_kind};
+ghost use Rattle.fs_sparse.specs.Files.{bytes_in};
+ghost use Rattle.fs_flat.specs.code.Cells.{kind_of, bytes_at, entry_of};
 
 use crate::keys::same_key;
 use fs_names::{Kind, Name};
-use fs_seq::Row;
+use fs_sparse::SparseFile;
 use std::alloc::{AllocError, Global};
 use std::marker::Model;
 use std::rc::Rc;
 
-/// An entry of a tree: what stands at a key.
+/// What is at a key, which may have more names than a path.
+#[derive(Drop)]
+struct Entry {
+    /// The names from the root down.
+    key: Vec<Name>,
+    kind: Kind,
+    /// The bytes of a file; a directory has none.
+    content: SparseFile,
+}
+
+/// An entry of a tree: what is at a key.
 #[derive(Drop)]
 pub(crate) struct Cell {
-    row: Rc<Row>,
+    entry: Rc<Entry>,
 }
 
 impl Model for Cell {
     ghost use Rattle.std.specs.Rc.{rc_value};
     ghost use Rattle.fs_names.specs.Keys.{Key};
     ghost use Rattle.fs_calls.specs.Tree.{Node};
-    ghost use Rattle.fs_rows.specs.Rows.{row_of};
+    ghost use Rattle.fs_flat.specs.code.Cells.{entry_of};
 
     ghost Value = { Key × Node };
 
-    ghost view = { λ c. row_of (rc_value c.row) };
+    ghost view = { λ c. entry_of (rc_value c.entry) };
 }
 
 fn same_kinds(kind: Kind, other: Kind) -> bool
@@ -36,25 +46,19 @@ fn same_kinds(kind: Kind, other: Kind) -> bool
     kind == other
 }
 
-fn same_contents(bytes: &[u8], others: &[u8]) -> bool
-    ensures { result ≡ same_bytes bytes.now others.now }
-{
-    bytes == others
-}
-
 /// Whether both are one entry: of directories no bytes count.
-fn same_row(row: &Row, other: &Row) -> bool
-    ensures { result ≡ true ↔ row_of row.now ≡ row_of other.now }
+fn same_entry(entry: &Entry, other: &Entry) -> bool
+    ensures { result ≡ true ↔ entry_of entry.now ≡ entry_of other.now }
 {
-    if !same_key(&row.key, &other.key) {
+    if !same_key(&entry.key, &other.key) {
         return false;
     }
-    if !same_kinds(row.kind, other.kind) {
+    if !same_kinds(entry.kind, other.kind) {
         return false;
     }
-    match row.kind {
+    match entry.kind {
         Kind::Dir => true,
-        Kind::File => same_contents(&row.bytes, &other.bytes),
+        Kind::File => entry.content.same(&other.content),
     }
 }
 
@@ -67,22 +71,37 @@ fn mixed(mark: u64, number: u64) -> u64 {
     product ^ (product >> 29)
 }
 
-/// Bytes mixed into a mark: how many they are, and some of them.
+/// Bytes mixed into a mark, and how many they are.
 fn with_bytes(mark: u64, bytes: &[u8]) -> u64 {
     let mut with = mixed(mark, bytes.len() as u64);
-    for byte in bytes.iter().step_by(bytes.len() / MARKED + 1) {
+    for byte in bytes {
         with = mixed(with, u64::from(*byte));
     }
     with
 }
 
+/// The contents of a file mixed into a mark: how many bytes they are, and some of them.
+fn with_content(mark: u64, content: &SparseFile) -> u64 {
+    let mut with = mixed(mark, content.len() as u64);
+    for place in (0..content.len()).step_by(content.len() / MARKED + 1) {
+        with = mixed(with, u64::from(content.byte(place)));
+    }
+    with
+}
+
 impl Cell {
-    /// The entry of a row.
-    pub fn new(alloc: Global, row: Row) -> Result<Cell, AllocError>
-        ensures { IfOk result (λ cell. cell ≡ row_of row) }
+    /// The entry of a node at a key; the content is that of a file.
+    pub fn new(
+        alloc: Global,
+        key: Vec<Name>,
+        kind: Kind,
+        content: SparseFile,
+    ) -> Result<Cell, AllocError>
+        ensures { IfOk result (λ cell. cell ≡ (key.items, node_of_kind kind content)) }
     {
-        match Rc::new(alloc, row) {
-            Ok(row) => Ok(Cell { row }),
+        let made = Rc::new(alloc, Entry { key, kind, content });
+        match made {
+            Ok(entry) => Ok(Cell { entry }),
             Err(_) => Err(AllocError),
         }
     }
@@ -91,31 +110,41 @@ impl Cell {
     pub fn copy(&self) -> Result<Cell, AllocError>
         ensures { IfOk result (λ cell. cell ≡ self.now) }
     {
-        let row = self.row.clone()?;
-        Ok(Cell { row })
+        let entry = self.entry.clone()?;
+        Ok(Cell { entry })
     }
 
     /// The names from the root down.
     pub fn key(&self) -> &[Name]
         ensures { result.now ≡ self.now.0 }
     {
-        self.row.key.as_slice()
+        self.entry.key.as_slice()
     }
 
-    /// Whether a directory or a file stands there.
+    /// Whether a directory or a file is there.
     pub fn kind(&self) -> Kind
         ensures { result ≡ kind_of self.now.1 }
     {
-        self.row.kind
+        self.entry.kind
     }
 
-    /// The bytes of a file; a directory has none.
-    pub fn bytes(&self) -> &[u8]
-        ensures { result.now ≡ bytes_at self.now.1 }
+    /// The content of a file.
+    pub fn content(&self) -> Option<&SparseFile>
+        ensures { bytes_in (option_copied result) ≡ bytes_at self.now.1 }
     {
-        match self.row.kind {
-            Kind::Dir => &[],
-            Kind::File => self.row.bytes.as_slice(),
+        match self.entry.kind {
+            Kind::Dir => None,
+            Kind::File => Some(&self.entry.content),
+        }
+    }
+
+    /// How many bytes a file has; a directory has none.
+    pub fn len(&self) -> usize
+        ensures { result ≡ length (bytes_at self.now.1) }
+    {
+        match self.entry.kind {
+            Kind::Dir => 0,
+            Kind::File => self.entry.content.len(),
         }
     }
 
@@ -128,13 +157,13 @@ impl Cell {
         for name in self.key() {
             mark = with_bytes(mark, name.bytes());
         }
-        with_bytes(mark, self.bytes())
+        with_content(mark, &self.entry.content)
     }
 
     /// Whether both are one entry.
     pub fn same(&self, other: &Cell) -> bool
         ensures { result ≡ true ↔ self.now ≡ other.now }
     {
-        same_row(&self.row, &other.row)
+        same_entry(&self.entry, &other.entry)
     }
 }

@@ -1,6 +1,6 @@
 //! The entries after a call without an error.
 
-ghost use Rattle.std.specs.Prelude.{◌≡◌, ◌++◌, ◌∷◌, [], IsTrue, true, IfOk, IfSome, OnOk, map, if◌then◌else◌};
+ghost use Rattle.std.specs.Prelude.{◌≡◌, ◌++◌, ◌∷◌, [], IsTrue, true, IfOk, IfSome, OnOk, map, option_copied, if◌then◌else◌};
 ghost use Rattle.std.specs.FinMap.{is_sorted, put};
 ghost use Rattle.fs_names.specs.Keys.{key_cmp};
 ghost use Rattle.fs_names.specs.declared.limits.Limits.TheVariants.{V1};
@@ -15,10 +15,10 @@ ghost use Rattle.fs_flat.specs.code.Cells.{without_key, below_key, beside_key, m
 use crate::cell::Cell;
 use crate::keys::{behind, joined, names_of};
 use crate::searching::{below, is_below, parts, range_below, rises, search};
-use crate::seeing::bytes_of;
+use crate::seeing::content_at;
 use fs_calls::Call;
 use fs_names::{Kind, Name, Path};
-use fs_seq::Row;
+use fs_sparse::{SparseFile, resized, written};
 use std::alloc::{AllocError, Global};
 
 /// Adds the same entries again.
@@ -51,7 +51,7 @@ fn is_first(cell: &Cell, cells: &[Cell]) -> bool
     is_below(cell, &cells[0])
 }
 
-/// Puts an entry among others, whatever stood at its key. Of entries that come from the last on, most are the first.
+/// Puts an entry among others, whatever was at its key. Of entries that come from the last on, most are the first.
 fn put(cells: &mut Vec<Cell>, cell: Cell) -> Result<(), AllocError>
     requires { IsTrue (is_sorted key_cmp cells.old.items) }
     ensures { OnOk result (cells.new.items ≡ put key_cmp cell.0 cell.1 cells.old.items) }
@@ -72,21 +72,21 @@ fn put(cells: &mut Vec<Cell>, cell: Cell) -> Result<(), AllocError>
     }
 }
 
-/// The entries with a node at a key, whatever stood there.
+/// The entries with a node at a key, whatever was there.
 #[tactic(auto, using(crate::proofs::ChangeLemmas::inserted_is))]
 fn with_node(
     alloc: Global,
     cells: &[Cell],
     path: &Path,
     kind: Kind,
-    bytes: Vec<u8>,
+    content: SparseFile,
 ) -> Result<Vec<Cell>, AllocError>
     requires { IsTrue (is_sorted key_cmp cells.now) }
-    ensures { IfOk result (λ new. new.items ≡ inserted cells.now path.now (node_of_kind kind bytes.items)) }
+    ensures { IfOk result (λ new. new.items ≡ inserted cells.now path.now (node_of_kind kind content)) }
 {
     let key = names_of(alloc, path)?;
     let mut new = copied(alloc, cells)?;
-    put(&mut new, Cell::new(alloc, Row { key, kind, bytes })?)?;
+    put(&mut new, Cell::new(alloc, key, kind, content)?)?;
     Ok(new)
 }
 
@@ -106,9 +106,11 @@ fn without(alloc: Global, cells: &[Cell], key: &[Name]) -> Result<Vec<Cell>, All
 fn moved_to(alloc: Global, cell: &Cell, key: Vec<Name>) -> Result<Cell, AllocError>
     ensures { IfOk result (λ new. new ≡ (key.items, cell.now.1)) }
 {
-    let bytes = Vec::from_slice(alloc, cell.bytes())?;
-    let kind = cell.kind();
-    Ok(Cell::new(alloc, Row { key, kind, bytes })?)
+    let content = match cell.content() {
+        Some(content) => content.copy(alloc)?,
+        None => SparseFile::empty(alloc),
+    };
+    Ok(Cell::new(alloc, key, cell.kind(), content)?)
 }
 
 /// The entry, where a key that begins with the one gets the other in its place.
@@ -131,7 +133,7 @@ fn swapped(alloc: Global, cell: &Cell, one: &[Name], other: &[Name]) -> Result<C
     }
 }
 
-/// Entries put in order, one by one: of a key that stands twice the first one counts.
+/// Entries put in order, one by one: if a key comes twice, the first one counts.
 #[tactic(auto, using(crate::proofs::ChangeLemmas::ordered_rise))]
 fn ordered(alloc: Global, cells: Vec<Cell>) -> Result<Vec<Cell>, AllocError>
     ensures { IfOk result (λ new. new.items ≡ from_list cells.items) }
@@ -201,7 +203,7 @@ fn joins(cells: &[Cell], others: &[Cell]) -> bool
     is_below(&cells[cells.len() - 1], &others[0])
 }
 
-/// Entries and others behind them, if they were found to rise.
+/// Entries and others after them, if they were found to rise.
 fn joined_rising(cells: Vec<Cell>, others: Vec<Cell>) -> Result<Option<Vec<Cell>>, AllocError>
     requires before { IsTrue (is_sorted key_cmp cells.items) }
     requires behind { IsTrue (is_sorted key_cmp others.items) }
@@ -217,7 +219,7 @@ fn joined_rising(cells: Vec<Cell>, others: Vec<Cell>) -> Result<Option<Vec<Cell>
     Ok(Some(all))
 }
 
-/// The moved ones of entries before a place and behind it, in order.
+/// The moved ones of entries before a place and after it, in order.
 fn moved_below(
     alloc: Global,
     before: &[Cell],
@@ -235,7 +237,8 @@ fn moved_below(
     Ok(moved)
 }
 
-/// Entries before a place and behind it, where those at a key and below it move into that place, if they were found to rise.
+/// Entries before a place and after it, where those at a key and below it move into that place, if they were found to
+/// rise.
 #[tactic(auto, using(crate::proofs::RangeLemmas::beside_rises, crate::proofs::WovenLemmas::woven))]
 fn woven(
     alloc: Global,
@@ -322,30 +325,6 @@ fn after_exchange(
     Ok(exchanged(alloc, cells, path, with)?)
 }
 
-/// Bytes after a write: a gap reads as zeros.
-fn written(alloc: Global, old: &[u8], off: usize, bytes: &[u8]) -> Result<Vec<u8>, AllocError>
-    ensures { IfOk result (λ new. new.items ≡ written old.now off bytes.now) }
-{
-    let mut new = resized(alloc, old, off)?;
-    new.extend_from_slice(bytes)?;
-    if new.len() < old.len() {
-        new.extend_from_slice(&old[new.len()..])?;
-    }
-    Ok(new)
-}
-
-/// Bytes cut to a size, or with zeros up to it.
-fn resized(alloc: Global, old: &[u8], size: usize) -> Result<Vec<u8>, AllocError>
-    ensures { IfOk result (λ new. new.items ≡ resized old.now size) }
-{
-    if size <= old.len() {
-        return Vec::from_slice(alloc, &old[..size]);
-    }
-    let mut new = Vec::from_slice(alloc, old)?;
-    new.resize(size, 0)?;
-    Ok(new)
-}
-
 /// The entries after a write without an error.
 #[tactic(auto, using(crate::proofs::ChangeLemmas::written_nothing, crate::proofs::ChangeLemmas::written_some))]
 fn after_write(
@@ -362,7 +341,7 @@ fn after_write(
         return Ok(copied(alloc, cells)?);
     }
     let key = names_of(alloc, path)?;
-    let new = written(alloc, bytes_of(cells, &key), off as usize, bytes)?;
+    let new = written(alloc, content_at(cells, &key), off as usize, bytes)?;
     Ok(with_node(alloc, cells, path, Kind::File, new)?)
 }
 
@@ -378,7 +357,7 @@ fn after_truncate(
     ensures { IfOk result (λ new. new.items ≡ inserted cells.now path.now (File (resized (bytes_of (tree_shapes cells.now path.now)) size))) }
 {
     let key = names_of(alloc, path)?;
-    let new = resized(alloc, bytes_of(cells, &key), size as usize)?;
+    let new = resized(alloc, content_at(cells, &key), size as usize)?;
     Ok(with_node(alloc, cells, path, Kind::File, new)?)
 }
 
@@ -398,8 +377,20 @@ pub(crate) fn change(alloc: Global, cells: &[Cell], call: &Call) -> Result<Vec<C
     ensures { IfOk result (λ new. new.items ≡ change V1 cells.now call.now) }
 {
     match call {
-        Call::Mkdir(path) => Ok(with_node(alloc, cells, path, Kind::Dir, Vec::new(alloc))?),
-        Call::Mknod(path) => Ok(with_node(alloc, cells, path, Kind::File, Vec::new(alloc))?),
+        Call::Mkdir(path) => Ok(with_node(
+            alloc,
+            cells,
+            path,
+            Kind::Dir,
+            SparseFile::empty(alloc),
+        )?),
+        Call::Mknod(path) => Ok(with_node(
+            alloc,
+            cells,
+            path,
+            Kind::File,
+            SparseFile::empty(alloc),
+        )?),
         Call::Unlink(path) | Call::Rmdir(path) => Ok(after_removal(alloc, cells, path)?),
         Call::Rename(from, to) => Ok(after_rename(alloc, cells, from, to)?),
         Call::Exchange(path, with) => Ok(after_exchange(alloc, cells, path, with)?),

@@ -32,7 +32,7 @@ fn node_error(cells: &[Cell], limits: Limits, call: NodeCall<'_>, key: &[Name]) 
     call.error(limits, sight(cells, key))
 }
 
-/// The first error of a call on an entry, behind those that its path decides alone.
+/// The first error of a call on an entry, after those that its path decides alone.
 #[tactic(auto, using(crate::proofs::FaultLemmas::entry_lost, crate::proofs::FaultLemmas::entry_there))]
 fn entry_error(cells: &[Cell], limits: Limits, call: EntryCall, key: &[Name]) -> Option<Errno>
     requires { IsTrue (is_sorted key_cmp cells.now) }
@@ -80,7 +80,7 @@ fn dirs_error(cells: &[Cell], first: &[Name], second: &[Name]) -> Option<Errno>
     resolve_dir(cells, parent(second))
 }
 
-/// The first error of a call on the entries of two keys, behind those that its paths decide alone.
+/// The first error of a call on the entries of two keys, after those that its paths decide alone.
 #[tactic(auto, using(crate::proofs::FaultLemmas::pair_lost))]
 fn keys_error(
     cells: &[Cell],
@@ -102,7 +102,7 @@ fn keys_error(
     call.error(pair_sight(cells, limits, path, other, first, second))
 }
 
-/// The first error of a call on two entries, behind those that its paths decide alone.
+/// The first error of a call on two entries, after those that its paths decide alone.
 fn pair_error(
     alloc: Global,
     cells: &[Cell],
@@ -119,7 +119,7 @@ fn pair_error(
     Ok(keys_error(cells, limits, call, path, other, &first, &second))
 }
 
-/// The first error of what a call looks at, behind those that its paths decide alone.
+/// The first error of what a call looks at, after those that its paths decide alone.
 fn target_error(
     alloc: Global,
     cells: &[Cell],

@@ -14,6 +14,7 @@ use crate::searching::rises;
 use fs_calls::{Call, Reply};
 use fs_names::Limits;
 use fs_seq::SeqTree;
+use fs_sparse::SparseFile;
 use std::alloc::{AllocError, Global};
 use std::marker::Model;
 
@@ -81,7 +82,8 @@ fn cells_of(alloc: Global, tree: &SeqTree) -> Result<Vec<Cell>, AllocError>
 {
     let mut cells = Vec::new(alloc);
     for row in tree.rows(alloc)? {
-        cells.push(Cell::new(alloc, row)?)?;
+        let content = SparseFile::of(alloc, row.bytes)?;
+        cells.push(Cell::new(alloc, row.key, row.kind, content)?)?;
     }
     Ok(cells)
 }
@@ -103,7 +105,7 @@ fn are_same(cells: &[Cell], others: &[Cell]) -> bool
 }
 
 impl FlatTree {
-    /// The same tree as a sequential one. Its entries are told in order, so that no error comes but for want of memory.
+    /// The same tree as a sequential one. Its entries come in order, so no error comes unless memory runs out.
     pub fn of(alloc: Global, tree: &SeqTree) -> Result<FlatTree, AllocError>
         ensures { IfOk result (λ flat. flat ≡ tree.now) }
     {

@@ -14,14 +14,14 @@ ghost use Rattle.fs_flat.specs.code.Cells.{lent_names};
 use crate::cell::Cell;
 use crate::keys::names_of;
 use crate::searching::find;
-use crate::seeing::{bytes_of, count, names};
-use fs_calls::ranges::part;
+use crate::seeing::{content_at, count, names};
 use fs_calls::{Bytes, Call, Errno, NameList, Reply};
 use fs_memory::Memory;
 use fs_names::{Kind, LIST_LIMIT, Limits, Name, NameRoom, Path};
+use fs_sparse::read;
 use std::alloc::{AllocError, Global};
 
-/// The kind and the size of what stands at a key.
+/// The kind and the size of what is at a key.
 #[tactic(auto, using(crate::proofs::SeenLemmas::status_nothing, crate::proofs::SeenLemmas::status_file, crate::proofs::SeenLemmas::status_dir))]
 fn status(cells: &[Cell], key: &[Name]) -> Reply
     requires { IsTrue (is_sorted key_cmp cells.now) }
@@ -32,7 +32,7 @@ fn status(cells: &[Cell], key: &[Name]) -> Reply
     };
     match cell.kind() {
         Kind::Dir => Reply::Stat(Kind::Dir, count(cells, key) as u64),
-        Kind::File => Reply::Stat(Kind::File, cell.bytes().len() as u64),
+        Kind::File => Reply::Stat(Kind::File, cell.len() as u64),
     }
 }
 
@@ -96,8 +96,8 @@ fn bytes_at(
 {
     let key = names_of(alloc, path)?;
     let most = count.min(limits.read() as u64);
-    let found = part(bytes_of(cells, &key), off, most);
-    Ok(Reply::Bytes(Bytes::new(Vec::from_slice(alloc, found)?)))
+    let found = read(alloc, content_at(cells, &key), off as usize, most as usize)?;
+    Ok(Reply::Bytes(Bytes::new(found)))
 }
 
 /// The reply of a call without an error by these limits.

@@ -1,4 +1,4 @@
-//! Where a key stands among entries whose keys rise.
+//! Where a key is among entries whose keys rise.
 
 ghost use Rattle.std.specs.Prelude.{◌≡◌, ◌≤◌, ◌++◌, length, drop, IsTrue, true, false, is_some, option_copied};
 ghost use Rattle.std.specs.List.{AllWithin};
@@ -15,7 +15,7 @@ use fs_names::Name;
 use fs_names::order::compare_keys;
 use std::cmp::Ordering;
 
-/// Where a key stands among the entries, or where it belongs.
+/// Where a key is among the entries, or where it belongs.
 pub(crate) fn search(cells: &[Cell], key: &[Name]) -> Result<usize, usize>
     requires { IsTrue (is_sorted key_cmp cells.now) }
     ensures { Searches cells.now key.now result }
@@ -23,7 +23,7 @@ pub(crate) fn search(cells: &[Cell], key: &[Name]) -> Result<usize, usize>
     cells.binary_search_by(|cell| compare_keys(cell.key(), key))
 }
 
-/// The entries before a key, and those behind it.
+/// The entries before a key, and those after it.
 #[tactic(auto, using(crate::proofs::RangeLemmas::parts_found, crate::proofs::RangeLemmas::parts_missing, crate::proofs::RangeLemmas::take_rises, crate::proofs::RangeLemmas::rest_rises))]
 pub(crate) fn parts<'a>(cells: &'a [Cell], key: &[Name]) -> (&'a [Cell], &'a [Cell])
     requires { IsTrue (is_sorted key_cmp cells.now) }
@@ -69,7 +69,7 @@ fn from_place(cells: &[Cell], place: usize) -> &[Cell]
     &cells[place..]
 }
 
-/// The places from which and up to which the entries at a key and below it stand.
+/// The places from which and up to which the entries at a key and below it are.
 #[tactic(auto, using(crate::proofs::RangeLemmas::above_from, crate::proofs::RangeLemmas::range_is))]
 pub(crate) fn range_below(cells: &[Cell], key: &[Name]) -> (usize, usize)
     requires { IsTrue (is_sorted key_cmp cells.now) }
@@ -90,7 +90,7 @@ pub(crate) fn below<'a>(cells: &'a [Cell], key: &[Name]) -> &'a [Cell]
     &cells[from..to]
 }
 
-/// What stands at a key.
+/// What is at a key.
 #[tactic(auto, using(crate::proofs::SeenLemmas::seen_at, crate::proofs::SeenLemmas::seen_nowhere))]
 pub(crate) fn find<'a>(cells: &'a [Cell], key: &[Name]) -> Option<&'a Cell>
     requires { IsTrue (is_sorted key_cmp cells.now) }

@@ -1,4 +1,4 @@
-//! What stands at keys.
+//! What is at keys.
 
 ghost use Rattle.std.specs.Prelude.{◌≡◌, ◌<◌, ◌≤◌, ◌++◌, ◌∷◌, [], Some, length, nat_le, IsTrue, option_copied, IfOk, OnOk};
 ghost use Rattle.std.specs.FinMap.{is_sorted};
@@ -8,6 +8,7 @@ ghost use Rattle.fs_names.specs.Shapes as shapes;
 ghost use Rattle.fs_calls.specs.Tree.{names_in};
 ghost use Rattle.fs_calls.specs.Sights.{tree_shapes, has_any, bytes_of, is_full, resolve, resolve_dir};
 ghost use Rattle.fs_calls.specs.code.Seen.{sight};
+ghost use Rattle.fs_sparse.specs.Files.{bytes_in};
 ghost use Rattle.fs_flat.specs.code.Cells.{GoesOn, ReachesOn, lent_names};
 
 use crate::cell::Cell;
@@ -16,6 +17,7 @@ use crate::searching::{below, find};
 use fs_calls::rows::step_error;
 use fs_calls::{Errno, Sight, ranges};
 use fs_names::{Kind, LIST_LIMIT, Limits, Name};
+use fs_sparse::SparseFile;
 use std::alloc::{AllocError, Global};
 
 /// Whether an entry is one of a directory.
@@ -174,19 +176,19 @@ pub(crate) fn is_full(cells: &[Cell], limits: Limits, key: &[Name]) -> bool
     }
 }
 
-/// The bytes of the file at a key; of all else none.
+/// The content of the file at a key.
 #[tactic(auto, using(crate::proofs::SeenLemmas::bytes_there, crate::proofs::SeenLemmas::bytes_nowhere))]
-pub(crate) fn bytes_of<'a>(cells: &'a [Cell], key: &[Name]) -> &'a [u8]
+pub(crate) fn content_at<'a>(cells: &'a [Cell], key: &[Name]) -> Option<&'a SparseFile>
     requires { IsTrue (is_sorted key_cmp cells.now) }
-    ensures { result.now ≡ bytes_of (tree_shapes cells.now key.now) }
+    ensures { bytes_in (option_copied result) ≡ bytes_of (tree_shapes cells.now key.now) }
 {
     match find(cells, key) {
-        Some(cell) => cell.bytes(),
-        None => &[],
+        Some(cell) => cell.content(),
+        None => None,
     }
 }
 
-/// Why a path does not go on from what stands at a key to what stands below it.
+/// Why a path does not go on from what is at a key to what is below it.
 fn step(here: Option<&Cell>, below: Option<&Cell>) -> Option<Errno>
     ensures { GoesOn (option_copied here.entry) (option_copied below.entry) result }
 {

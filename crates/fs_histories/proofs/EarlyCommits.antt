@@ -16,8 +16,8 @@ use Rattle.fs_timeline.specs.Timeline.{call_of, commits}
 use Rattle.fs_timeline.specs.declared.entry.Entry.{Entry}
 use Rattle.fs_histories.specs.declared.heard.Heard.{Heard}
 use Rattle.fs_histories.specs.declared.heard.Pattern.{Pattern}
-use Rattle.fs_histories.specs.declared.heard.Pattern.TheVariants.{Exactly, AnyError, AnyDirectory, Except}
-use Rattle.fs_histories.specs.Heard.{Matches, is_error}
+use Rattle.fs_histories.specs.declared.heard.Pattern.TheVariants.{Exactly, AnyError, OneOf, AnyDirectory, Except, Anything}
+use Rattle.fs_histories.specs.Heard.{Matches, is_error, is_one_of}
 use Rattle.fs_histories.specs.Histories.{recorded, ExplainsFront}
 use Rattle.fs_histories.specs.Configurations.{Configuration, is_in, committed}
 use Rattle.fs_histories.specs.Early.{leaves_trees, tells_error, is_quiet, CanCommitEarly, SettlesBy}
@@ -54,11 +54,17 @@ error_is : (r : Reply) → is_error r ≡ true → (e : Errno) × (r ≡ answer.
 error_is (answer.Failed e) is = (e, refl)
 error_is _ is = absurd (cc)
 
+one_of_errors : (errors : List Errno) (r : Reply) → is_one_of r errors ≡ true → is_error r ≡ true
+one_of_errors errors (answer.Failed e) is = refl
+one_of_errors errors _ is = absurd (cc)
+
 told_error : (p : Pattern) (r : Reply) → tells_error p ≡ true → Matches p r → is_error r ≡ true
 told_error (Exactly s) r tells is = ap is_error is ∙ tells
 told_error AnyError r tells is = is
+told_error (OneOf errors) r tells is = one_of_errors errors r is
 told_error AnyDirectory r tells is = absurd (cc)
 told_error (Except replies) r tells is = absurd (cc)
+told_error Anything r tells is = absurd (cc)
 
 failed_stays : (limits : Limits) (t : Tree) (call : Call) (p : Pattern) → tells_error p ≡ true → Matches p (reply limits t call) → after limits t call ≡ t
 failed_stays limits t call p tells is =

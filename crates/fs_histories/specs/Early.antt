@@ -5,7 +5,7 @@ use Rattle.fs_calls.specs.declared.call.Call.{Call}
 use Rattle.fs_calls.specs.declared.call.Call.TheVariants.{Mkdir, Mknod, Unlink, Rmdir, Rename, Exchange, Stat, Readdir, ListAfter, Read, Write, Truncate}
 use Rattle.fs_histories.specs.declared.heard.Heard.{Heard}
 use Rattle.fs_histories.specs.declared.heard.Pattern.{Pattern}
-use Rattle.fs_histories.specs.declared.heard.Pattern.TheVariants.{Exactly, AnyError, AnyDirectory, Except}
+use Rattle.fs_histories.specs.declared.heard.Pattern.TheVariants.{Exactly, AnyError, OneOf, AnyDirectory, Except, Anything}
 use Rattle.fs_histories.specs.Heard.{is_error}
 use Rattle.fs_histories.specs.Histories.{recorded}
 use Rattle.fs_histories.specs.Configurations.{Configuration, committed, CanCommit}
@@ -29,8 +29,10 @@ leaves_trees (Truncate p size) = false
 abbrev pub tells_error : Pattern → Bool
 tells_error (Exactly r) = is_error r
 tells_error AnyError = true
+tells_error (OneOf errors) = true
 tells_error AnyDirectory = false
 tells_error (Except replies) = false
+tells_error Anything = false
 
 -- a call of whose reply this is known changes no tree on which it gets such a reply
 abbrev pub is_quiet : Call → Pattern → Bool

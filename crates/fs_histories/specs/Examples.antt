@@ -17,7 +17,7 @@ use Rattle.fs_timeline.specs.declared.verdict.FaultKind.TheVariants.{WrongReply}
 use Rattle.fs_linearizable.specs.Linearizable.{history}
 use Rattle.fs_histories.specs.declared.heard.Heard.{Heard}
 use Rattle.fs_histories.specs.declared.heard.Heard.TheVariants as heard
-use Rattle.fs_histories.specs.declared.heard.Pattern.TheVariants.{Exactly, AnyError, AnyDirectory}
+use Rattle.fs_histories.specs.declared.heard.Pattern.TheVariants.{Exactly, AnyError, OneOf, AnyDirectory, Anything}
 use Rattle.fs_histories.specs.Heard.{AreHeardIn}
 use Rattle.fs_histories.specs.Faults.{history_fault}
 use Rattle.fs_histories.specs.declared.fault.HistoryFault.TheVariants.{BeginTwice, SeatBusy, ReturnUnbegun, ReturnTwice}
@@ -59,6 +59,12 @@ pub record ExplainedHistories : Type 0 where
   pub from_a_tree : IsExplained (record { limits = V1; tree = with_both })
       (Begin 1 0 (Mkdir at_a) ∷ Commit 1 ∷ Return 1 (answer.Failed Eexist) ∷ [])
       (heard.Begin 1 0 (Mkdir at_a) ∷ heard.Return 1 AnyError ∷ [])
+  pub one_of_two : IsExplained (record { limits = V1; tree = with_both })
+      (Begin 1 0 (Mkdir at_a) ∷ Commit 1 ∷ Return 1 (answer.Failed Eexist) ∷ [])
+      (heard.Begin 1 0 (Mkdir at_a) ∷ heard.Return 1 (OneOf (Enoent ∷ Eexist ∷ [])) ∷ [])
+  pub any_reply : IsExplained (record { limits = V1; tree = with_both })
+      (Begin 1 0 (Mkdir at_a) ∷ Commit 1 ∷ Return 1 (answer.Failed Eexist) ∷ [])
+      (heard.Begin 1 0 (Mkdir at_a) ∷ heard.Return 1 Anything ∷ [])
   pub exchanged : IsExplained (record { limits = V2; tree = with_both })
       (Begin 1 0 (Exchange at_a at_f) ∷ Begin 2 1 (Stat at_a) ∷ Commit 1 ∷ Commit 2 ∷ Return 2 (answer.Stat kinds.File 1) ∷ Return 1 answer.Done ∷ [])
       (heard.Begin 1 0 (Exchange at_a at_f) ∷ heard.Begin 2 1 (Stat at_a) ∷ heard.Return 2 (Exactly (answer.Stat kinds.File 1)) ∷ heard.Return 1 (Exactly answer.Done) ∷ [])

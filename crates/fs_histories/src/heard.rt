@@ -1,8 +1,9 @@
 //! What is heard of calls from outside of a tree.
 
 ghost use Rattle.std.specs.Prelude.{◌≡◌, ◌↔◌, true};
-ghost use Rattle.fs_histories.specs.Heard.{Matches, is_error, is_directory, is_among};
+ghost use Rattle.fs_histories.specs.Heard.{Matches, is_error, is_directory, is_one_of, is_among};
 
+use crate::errors::Errors;
 use fs_calls::{Call, Reply};
 use fs_names::{CallNo, Kind, SeatNo};
 
@@ -13,10 +14,14 @@ pub enum Pattern {
     Exactly(Reply),
     /// It is an error, and which one is not known.
     AnyError,
+    /// It is one of these errors.
+    OneOf(Errors),
     /// It is that of the stat of a directory, of which the size is not known.
     AnyDirectory,
     /// It is none of these.
     Except(Vec<Reply>),
+    /// It may be any reply.
+    Anything,
 }
 
 /// Whether a reply is an error.
@@ -31,6 +36,16 @@ fn is_directory(reply: &Reply) -> bool
     ensures { result ≡ is_directory reply.now }
 {
     matches!(reply, Reply::Stat(Kind::Dir, _))
+}
+
+/// Whether a reply is one of these errors.
+fn is_one_of(reply: &Reply, errors: &Errors) -> bool
+    ensures { result ≡ is_one_of reply.now errors.now }
+{
+    match reply {
+        Reply::Failed(errno) => errors.has(*errno),
+        _ => false,
+    }
 }
 
 /// Whether a reply is among replies.
@@ -53,8 +68,10 @@ impl Pattern {
         match self {
             Pattern::Exactly(known) => reply.same(known),
             Pattern::AnyError => is_error(reply),
+            Pattern::OneOf(errors) => is_one_of(reply, errors),
             Pattern::AnyDirectory => is_directory(reply),
             Pattern::Except(others) => !is_among(others, reply),
+            Pattern::Anything => true,
         }
     }
 }

@@ -11,7 +11,7 @@ use fs_timeline::{Entry, Timeline};
 use std::alloc::{AllocError, Global};
 use std::marker::Model;
 
-/// A timeline, and by call numbers and by commits where the Begins and the Commits stand in it.
+/// A timeline, and by call numbers and by commits where the Begins and the Commits are in it.
 #[derive(Drop)]
 pub struct IndexedTimeline {
     timeline: Timeline,
@@ -78,8 +78,8 @@ impl IndexedTimeline {
         Ok(())
     }
 
-    /// Makes room at once for the entries of so many calls more, of which so many are under way at a time, where there is
-    /// memory for it: a hint, by which no place is reserved and no entry changes.
+    /// Makes room at once for the entries of so many calls more, of which so many are pending at a time, if there is
+    /// memory for it. This is a hint: no place is reserved and no entry changes.
     pub fn make_room(&mut self, calls: usize, under_way: usize)
         ensures { self.new ≡ self.old }
     {
@@ -148,7 +148,7 @@ impl IndexedTimeline {
         }
     }
 
-    /// How many commits stand before that of the call of this number; none where it has not committed.
+    /// How many commits come before that of the call of this number; none if it has not committed.
     pub fn place_of(&self, call: CallNo) -> Option<usize>
         ensures { result ≡ place_of call self.now.entries }
     {

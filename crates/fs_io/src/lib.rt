@@ -1,8 +1,7 @@
 //! Sources and sinks, and the one way from a source to a sink.
 //!
-//! `transform` reads a source to its end, has a text made of what was read, and writes that text: the whole of it is made
-//! before its first byte is written, and a device is blamed only where it failed in this call. What is made, and why
-//! nothing is, a caller says.
+//! `transform` reads a source to its end, makes a text of what was read, and writes it. The whole text is made before its first byte is
+//! written, and a device is blamed only if it failed in this call. The caller says what is made, and why nothing is.
 //!
 //! Enter at `transform`, with a `Device` around a reader and a writer. The definitions are in `specs/Devices.antt`.
 #![tactic(auto)]

@@ -18,8 +18,8 @@ pub struct Made<T> {
     pub end: T,
 }
 
-/// Reads a source to its end, has a text made of it, and writes that. The whole text is made before its first byte is
-/// written. Of an input that is too long, what tells so is read and handed on.
+/// Reads a source to its end, makes a text of it with the function, and writes that. The whole text is made before its
+/// first byte is written. If an input is too long, as much as shows this is read and handed on.
 pub fn transform<R: Source, W: Sink, T: Drop, E: Drop, F: FnOnce(Vec<u8>) -> Result<Made<T>, E>>(
     alloc: Global,
     reader: &mut R,

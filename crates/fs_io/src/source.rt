@@ -68,7 +68,7 @@ fn read_all<R: Source, E: Drop>(alloc: Global, reader: &mut R) -> Result<Vec<u8>
     Ok(text)
 }
 
-/// Reads a text to its end; of one that is too long, as much as tells so.
+/// Reads a text to its end; if it is too long, as much as shows this.
 pub(crate) fn read_text<R: Source, E: Drop>(
     alloc: Global,
     reader: &mut R,

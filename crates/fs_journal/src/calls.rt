@@ -44,8 +44,9 @@ impl Begun<'_> {
     }
 }
 
-/// The calls that have begun. Those that began in the order of their numbers, from 1 on, stand in a vector, and the others
-/// in a search tree: call numbers are untrusted input, and without a keyed hash all of them could fall into one bucket.
+/// The calls that have begun. Those that began in the order of their numbers, from 1 on, are in a vector, and the
+/// others in a search tree. Call numbers are untrusted input, and without a keyed hash all of them could fall into one
+/// bucket.
 #[derive(Drop)]
 pub(crate) struct Calls<'a> {
     in_order: Vec<Begun<'a>>,
@@ -63,7 +64,7 @@ impl<'a> Calls<'a> {
         }
     }
 
-    /// Where the call of this number stands in the vector, if it stands there.
+    /// Where the call of this number is in the vector, if it is there.
     fn place_of(&self, number: u64) -> Option<usize>
         ensures { IsPlaceOf self.now.in_order.items number result }
     {

@@ -1,1 +1,4 @@
 pub mod Json
+pub mod Objects
+pub mod Reading
+pub mod code

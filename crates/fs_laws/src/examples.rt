@@ -37,7 +37,7 @@ pub fn helped_on_both_sides()
     ensures { HelpedOnBothSides }
 {}
 
-/// Of calls below both nodes, the one with the least number is helped first, also where it stands below the second path.
+/// Of calls below both nodes, the one with the least number is helped first, also if it is below the second path.
 pub fn least_below_second_path()
     ensures { LeastBelowSecondPath }
 {}

@@ -31,8 +31,8 @@ pub fn trees_as_maps()
     ensures { TreesAsMaps }
 {}
 
-/// The linearization theorem, over every run: the timeline is well formed, each returned reply is the one that the
-/// sequential tree gives at the call's commit, and where no call is under way the nodes spell the played tree.
+/// The linearization theorem, over every run. The timeline is well formed, and each returned reply is the one that the
+/// sequential tree gives at the call's commit. If no call is pending, the nodes spell the played tree.
 pub fn linearization()
     ensures { Linearization }
 {}
@@ -59,7 +59,7 @@ pub fn placed_settle()
     ensures { PlacedSettle }
 {}
 
-/// Over every run the place that a placed call's phase tells is the number of commits before its own in the timeline.
+/// Over every run the place in a placed call's phase is the number of commits before its own in the timeline.
 pub fn places_are_told()
     ensures { PlacesAreTold }
 {}
@@ -70,9 +70,9 @@ pub fn finish_never_waits()
     ensures { FinishNeverWaits }
 {}
 
-/// While a rename or an exchange is about to move nodes, no event brings a walking call below any of them. Each call that
-/// it helps meanwhile walked below one from the first, and none is helped twice; so it helps at most as many as stood
-/// there.
+/// While a rename or an exchange is about to move nodes, no event brings a walking call below any of them. Each call
+/// that it helps meanwhile walked below one from the first, and none is helped twice. So it helps at most as many as
+/// there were.
 pub fn helps_are_bounded()
     ensures { HelpsAreBounded }
 {}
@@ -82,19 +82,19 @@ pub fn each_seat_steps()
     ensures { EachSeatSteps }
 {}
 
-/// Over every run a call that waits for one that waits itself stands above it by one name or more; a call that holds
+/// Over every run a call that waits for one that waits itself is above it by one name or more. A call that holds
 /// nothing counts as above the root.
 pub fn waiters_stand_above()
     ensures { WaitersStandAbove }
 {}
 
-/// Over every run, where a call is under way, some seat's step answers neither that it waits nor that it is idle.
+/// Over every run, if a call is pending, some seat's step answers neither that it waits nor that it is idle.
 pub fn some_call_goes_on()
     ensures { SomeCallGoesOn }
 {}
 
-/// Over every run each step by which a call goes on takes one or more from a bound on the steps that all calls under way
-/// have left together. So, without new calls, the runs in which no step waits or idles are no longer than that.
+/// Over every run each step with which a call goes on takes one or more from a bound on the steps that all pending
+/// calls have left together. So, without new calls, the runs in which no step waits or idles are no longer than that.
 pub fn steps_take_work()
     ensures { StepsTakeWork }
 {}
@@ -104,8 +104,8 @@ pub fn begins_add_work()
     ensures { BeginsAddWork }
 {}
 
-/// A call that is begun with no other under way, and stepped to its end, replies and changes as the sequential tree says,
-/// and leaves no call under way.
+/// A call that begins while no other is pending, and is stepped to its end, replies and changes as the sequential tree
+/// says, and leaves no pending call.
 pub fn calls_meet_the_tree()
     ensures { CallsMeetTheTree }
 {}

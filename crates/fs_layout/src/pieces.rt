@@ -24,16 +24,16 @@ pub struct Bar {
     pub to: u64,
 }
 
-/// A node that is held or waited for, in a slot below the bar; where it is waited for the place among the names at which the word of
-/// the call stands that holds it.
-#[derive(Drop)]
+/// A node that is held or waited for, in a slot below the bar, and the place of its name among the names; where it is waited for the
+/// place among the names at which the word of the call stands that holds it.
+#[derive(Clone, Copy, Debug)]
 pub struct Hold {
     pub slot: usize,
     pub from: u64,
     pub to: u64,
     pub holder: Option<u32>,
     pub node: u32,
-    pub name: Vec<u8>,
+    pub name: Option<u32>,
 }
 
 /// A commit: where, which one of all, and whether another call gave it.
@@ -117,17 +117,6 @@ fn new_piece(alloc: Global, card: usize, lane: usize, from: u64, comes: bool) ->
         dots: Vec::new(alloc),
         slots: 0,
     }
-}
-
-fn copy_of(alloc: Global, hold: &Hold, to: u64) -> Result<Hold, AllocError> {
-    Ok(Hold {
-        slot: hold.slot,
-        from: hold.from,
-        to,
-        holder: hold.holder,
-        node: hold.node,
-        name: Vec::from_slice(alloc, hold.name.as_slice())?,
-    })
 }
 
 impl Live {
@@ -216,12 +205,7 @@ impl Live {
     }
 
     /// The row ends, and the call goes on in the next one, or did not return.
-    fn leave(
-        &mut self,
-        alloc: Global,
-        right: u64,
-        goes: bool,
-    ) -> Result<Option<Piece>, AllocError> {
+    fn leave(&mut self, right: u64, goes: bool) -> Result<Option<Piece>, AllocError> {
         let part = self.part;
         self.end_part(right, part)?;
         let Some(mut piece) = self.piece.take() else {
@@ -230,17 +214,17 @@ impl Live {
         piece.to = right;
         piece.goes = goes;
         for hold in &self.held {
-            piece.holds.push(copy_of(alloc, hold, right)?)?;
+            piece.holds.push(Hold { to: right, ..*hold })?;
         }
         if let Some(wait) = &self.wait {
             piece.pales.push((wait.from, right))?;
-            piece.holds.push(copy_of(alloc, wait, right)?)?;
+            piece.holds.push(Hold { to: right, ..*wait })?;
         }
         Ok(Some(piece))
     }
 
-    /// The next row begins, and a call comes from the one before.
-    fn come(&mut self, alloc: Global, card: usize, lane: usize, left: u64) {
+    /// The next row begins, and a call comes from the one before. A wait has a slot where waits have one.
+    fn come(&mut self, alloc: Global, card: usize, lane: usize, left: u64, has_slot: bool) {
         self.from = left;
         let mut slots = 0;
         for hold in self.held.iter_mut() {
@@ -249,7 +233,9 @@ impl Live {
         }
         if let Some(wait) = &mut self.wait {
             wait.from = left;
-            slots = slots.max(wait.slot.saturating_add(1));
+            if has_slot {
+                slots = slots.max(wait.slot.saturating_add(1));
+            }
         }
         let mut piece = new_piece(alloc, card, lane, left, true);
         piece.slots = slots;
@@ -290,7 +276,7 @@ impl Rows {
         if lane < self.lanes.len() {
             let live = &mut self.lanes[lane];
             let before = less(x, 12).max(live.from);
-            if let Some(piece) = live.leave(alloc, before, false)? {
+            if let Some(piece) = live.leave(before, false)? {
                 row.pieces.push(piece)?;
             }
             live.part = Part::Walking;
@@ -317,15 +303,15 @@ impl Rows {
         Ok(())
     }
 
-    /// A node is taken or waited for.
+    /// A node is taken or waited for. A wait has a slot where waits have one.
     fn hold(
         &mut self,
-        alloc: Global,
         lane: usize,
         x: u64,
         node: u32,
         holder: Option<u32>,
-        name: &[u8],
+        name: Option<u32>,
+        has_slot: bool,
     ) -> Result<(), AllocError> {
         if lane >= self.lanes.len() {
             return Ok(());
@@ -339,12 +325,14 @@ impl Rows {
             to: x,
             holder,
             node,
-            name: Vec::from_slice(alloc, name)?,
+            name,
         };
         if holder.is_none() {
             return live.take(hold);
         }
-        live.use_slot(slot);
+        if has_slot {
+            live.use_slot(slot);
+        }
         live.wait = Some(hold);
         Ok(())
     }
@@ -422,9 +410,9 @@ impl Rows {
         self.pass_by(lane, mark, x)?;
         match mark.what {
             What::Begin => self.begin(alloc, mark.card as usize, lane, x, row),
-            What::Take(node) => self.hold(alloc, lane, x, node, None, scene.name_of(mark)),
+            What::Take(node) => self.hold(lane, x, node, None, mark.name, true),
             What::Wait(node, holder) => {
-                self.hold(alloc, lane, x, node, Some(holder), scene.name_of(mark))
+                self.hold(lane, x, node, Some(holder), mark.name, !scene.folds)
             }
             What::LetGo(node) => self.let_go(lane, node, x),
             What::Help(helped) => self.help(scene, helped as usize, lane, x, row),
@@ -450,16 +438,17 @@ impl Rows {
         right: u64,
         goes: bool,
         row: &mut Row,
+        has_slots: bool,
     ) -> Result<(), AllocError> {
         let left = self.frame.left;
         if lane >= self.lanes.len() {
             return Ok(());
         }
         let live = &mut self.lanes[lane];
-        if let Some(piece) = live.leave(alloc, right, goes)? {
+        if let Some(piece) = live.leave(right, goes)? {
             let card = piece.card;
             row.pieces.push(piece)?;
-            live.come(alloc, card, lane, left);
+            live.come(alloc, card, lane, left, has_slots);
         }
         Ok(())
     }
@@ -471,9 +460,10 @@ impl Rows {
         right: u64,
         goes: bool,
         row: &mut Row,
+        has_slots: bool,
     ) -> Result<(), AllocError> {
         for lane in 0..self.lanes.len() {
-            self.turn_lane(alloc, lane, right, goes, row)?;
+            self.turn_lane(alloc, lane, right, goes, row, has_slots)?;
         }
         Ok(())
     }
@@ -525,7 +515,7 @@ impl Rows {
         } else {
             self.frame.right
         };
-        self.turn(alloc, right, !is_last, &mut row)?;
+        self.turn(alloc, right, !is_last, &mut row, !scene.folds)?;
         Ok(row)
     }
 }

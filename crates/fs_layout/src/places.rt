@@ -184,7 +184,7 @@ impl Placing {
         self.labels_end = 0;
         for lane in self.lanes.iter_mut() {
             let label = match lane.current {
-                Some(card) => repeated_width(alloc, scene, card)?,
+                Some(card) => repeated_width(alloc, scene, card, self.frame)?,
                 None => 0,
             };
             lane.turn(self.frame.left, label);
@@ -281,17 +281,25 @@ impl Placing {
 }
 
 /// How wide the label of a call is that is repeated.
-fn repeated_width(alloc: Global, scene: &Scene, card: usize) -> Result<u64, AllocError> {
+fn repeated_width(
+    alloc: Global,
+    scene: &Scene,
+    card: usize,
+    frame: Frame,
+) -> Result<u64, AllocError> {
     match scene.cards.get(card) {
-        Some(card) => Ok(label_width(label_of(alloc, card, true, scene.is_wide())?.len())),
+        Some(card) => {
+            let label = label_of(alloc, card, true, scene.is_wide(), frame.label_room())?;
+            Ok(label_width(label.len()))
+        }
         None => Ok(0),
     }
 }
 
 /// How wide the label is that stands at a mark.
-fn width_at(alloc: Global, card: &Card, what: What) -> Result<u64, AllocError> {
+fn width_at(alloc: Global, card: &Card, what: What, frame: Frame) -> Result<u64, AllocError> {
     if what == What::Begin {
-        Ok(label_width(label_of(alloc, card, false, false)?.len()))
+        Ok(label_width(label_of(alloc, card, false, false, frame.label_room())?.len()))
     } else {
         Ok(0)
     }
@@ -326,7 +334,7 @@ fn place_mark(
     mark: &Mark,
     card: &Card,
 ) -> Result<(u64, u64), AllocError> {
-    let label = width_at(alloc, card, mark.what)?;
+    let label = width_at(alloc, card, mark.what, placing.frame)?;
     let (other, order) = match other_card(scene, mark.what) {
         Some(other) => (Some(other.lane), other.order),
         None => (None, card.order),
@@ -339,7 +347,7 @@ fn place_mark(
         placing.turn(alloc, scene)?;
         x = placing.next_x(card.lane, mark.what, other);
     }
-    placing.put(card.lane, mark, scene.name_of(mark), x, label, order)?;
+    placing.put(card.lane, mark, scene.name_at(mark.name), x, label, order)?;
     if let Some(lane) = other {
         placing.put_given(lane, x, order);
     }

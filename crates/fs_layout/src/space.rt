@@ -1,7 +1,9 @@
 //! Lengths of a picture, in pixels. A sum that has no room is the greatest number: no picture comes to that.
 
-/// Where the lanes begin, behind a name of no characters.
+/// Where the lanes begin, after a name of no characters; and for so many characters there is room at least.
 const NAME_ROOM: u64 = 34;
+
+const LEAST_NAME: usize = 4;
 
 /// The height of a label, of a bar, and of a lane without a bar.
 pub const LABEL_HEIGHT: u64 = 16;
@@ -9,6 +11,9 @@ pub const LABEL_HEIGHT: u64 = 16;
 pub const BAR_HEIGHT: u64 = 16;
 
 pub const EMPTY_HEIGHT: u64 = 18;
+
+/// Between a bar to which an arrow leads, and the label above it or the boxes below it.
+pub const ARROW_GAP: u64 = 6;
 
 /// From one box to the next one below it, and the height of a box.
 pub const SLOT_HEIGHT: u64 = 13;
@@ -83,9 +88,31 @@ pub struct Frame {
     pub width: u64,
 }
 
+/// How many characters of a label so much room has.
+pub fn label_room(room: u64) -> usize {
+    (room.min(100_000) * 4 / 29) as usize
+}
+
+/// How many small characters so much room has.
+pub fn small_room(room: u64) -> usize {
+    (room.min(100_000) * 4 / 25) as usize
+}
+
+/// How many characters of a heading so much room has.
+pub fn heading_room(room: u64) -> usize {
+    (room.min(100_000) * 4 / 32) as usize
+}
+
+impl Frame {
+    /// How many characters a label has at most, so that it has room in a row.
+    pub fn label_room(&self) -> usize {
+        label_room(less(less(self.right, self.left), 10))
+    }
+}
+
 /// The frame of lanes with these names.
 pub fn frame_of(lanes: &[Vec<u8>]) -> Frame {
-    let mut widest = 0;
+    let mut widest = LEAST_NAME;
     for name in lanes {
         widest = widest.max(name.len());
     }

@@ -5,18 +5,18 @@ use Rattle.std.proofs.lemmas.List.Elements.{Contains-append_left, Contains-push,
 use Rattle.fs_calls.specs.Starts.{Start}
 use Rattle.fs_histories.specs.declared.heard.Heard.{Heard}
 use Rattle.fs_histories.specs.Configurations.{at_start}
-use Rattle.fs_linearize.specs.code.Calls.{AreEach, AreUnderWay, IsUnderWay}
-use Rattle.fs_linearize.specs.code.Ways.{IsLed, Keeps}
-use Rattle.fs_linearize.specs.code.Searching.{PassesTo, ReachesTo}
+use Rattle.fs_configurations.specs.code.Calls.{AreEach, AreUnderWay, IsUnderWay}
+use Rattle.fs_configurations.specs.code.Ways.{IsLed, Keeps}
+use Rattle.fs_configurations.specs.code.Searching.{PassesTo, ReachesTo}
 use Rattle.fs_linearize.specs.code.DepthFirst.{IsHere, GoesOn, IsChoice, AreChoices}
 use Rattle.fs_linearize.specs.declared.depth_first.Choice.{Choice}
 use Rattle.fs_linearize.specs.declared.depth_first.Here.{Here}
-use Rattle.fs_linearize.specs.declared.reached.Reached.{Reached}
-use Rattle.fs_linearize.specs.declared.steps.Link.{Link}
+use Rattle.fs_configurations.specs.declared.reached.Reached.{Reached}
+use Rattle.fs_configurations.specs.declared.steps.Link.{Link}
 use Rattle.fs_linearize.specs.declared.turns.Turn.{Turn}
-use Rattle.fs_linearize.specs.declared.under_way.UnderWay.{UnderWay}
-use Rattle.fs_linearize.proofs.CallLemmas.{none_under_way}
-use Rattle.fs_linearize.proofs.WayLemmas.{keeps_same, keeps_on, led_start}
+use Rattle.fs_configurations.specs.declared.under_way.UnderWay.{UnderWay}
+use Rattle.fs_configurations.proofs.CallLemmas.{none_under_way}
+use Rattle.fs_configurations.proofs.WayLemmas.{keeps_same, keeps_on, led_start}
 
 -- ---- what is kept
 

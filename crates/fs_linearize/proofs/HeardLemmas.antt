@@ -1,20 +1,14 @@
--- Entries of a history, one by one.
+-- The first fault of a history, entry by entry.
 use Rattle.std.proofs.Common.{◌≡◌, ℕ, suc, ◌<◌, ◌≤◌, ◌+◌, List, [], ◌∷◌, ◌++◌, length, take, drop, get_or, Some, None, refl, sym, ap, ◌∙◌, arith}
-use Rattle.std.proofs.lemmas.List.{take_more, drop_all}
+use Rattle.std.proofs.lemmas.List.{drop_all}
 use Rattle.std.proofs.Math.Seq.{drop-cons}
 use Rattle.fs_names.specs.Failures.{or_else}
 use Rattle.fs_timeline.specs.declared.entry.Entry.{Entry}
 use Rattle.fs_histories.specs.declared.heard.Heard.{Heard}
 use Rattle.fs_histories.specs.declared.fault.HistoryFault.{HistoryFault}
-use Rattle.fs_histories.specs.Heard.{entries, entry_of}
+use Rattle.fs_histories.specs.Heard.{entries}
 use Rattle.fs_histories.specs.Faults.{heard_fault, fault_at, fault_from, history_fault}
-
-pub entries-push : (es : List Heard) (x : Heard) → entries (es ++ x ∷ []) ≡ entries es ++ entry_of x ∷ []
-entries-push [] x = refl
-entries-push (y ∷ es) x = ap (λ ys. entry_of y ∷ ys) (entries-push es x)
-
-pub entries_more : (h : List Heard) (i : ℕ) (x : Heard) → i < length h → x ≡ get_or h i x → entries (take (i + 1) h) ≡ entries (take i h) ++ entry_of x ∷ []
-entries_more h i x small is = ap entries (take_more h i x small ∙ ap (λ y. take i h ++ y ∷ []) (sym is)) ∙ entries-push (take i h) x
+use Rattle.fs_configurations.proofs.HeardLemmas.{entries_more}
 
 -- the first fault among those that are left
 fault_split : (h : List Heard) (i : ℕ) (x : Heard) → i < length h → x ≡ get_or h i x

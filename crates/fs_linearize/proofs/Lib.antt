@@ -1,11 +1,3 @@
-mod NumberLemmas
-mod CodeLemmas
-mod ChainLemmas
-mod LayerLemmas
-mod CallLemmas
-mod NearLemmas
-mod WayLemmas
-mod SearchLemmas
 mod FindingLemmas
 mod StoppingLemmas
 mod DepthFirstLemmas

@@ -7,7 +7,7 @@ use Rattle.fs_histories.specs.declared.heard.Heard.{Heard}
 use Rattle.fs_histories.proofs.FaultLemmas.{explained_are_histories, faults_are_first}
 use Rattle.fs_histories.proofs.LinearizableLemmas.{explained_are_linearizable}
 use Rattle.fs_linearize.specs.Results.{IsHeardLinearizable}
-use Rattle.fs_linearize.specs.code.Searching.{IsSearched}
+use Rattle.fs_linearize.specs.code.Searched.{IsSearched}
 use Rattle.fs_linearize.specs.declared.search.Searched.{Searched}
 use Rattle.fs_linearize.specs.declared.search.Searched.TheVariants.{Ends, NoOrder, Limited}
 

@@ -13,7 +13,7 @@ use Rattle.fs_histories.proofs.PrefixLemmas.{explained_take, begun_explained}
 use Rattle.fs_linearize.specs.Limited.{WasLimited}
 use Rattle.fs_linearize.specs.Possible.{ArePossible}
 use Rattle.fs_linearize.specs.Results.{IsReturnAt}
-use Rattle.fs_linearize.specs.code.Searching.{IsSearched, IsPlace, IsRefused}
+use Rattle.fs_linearize.specs.code.Searched.{IsSearched, IsPlace, IsRefused}
 use Rattle.fs_linearize.specs.declared.replies.Possible.{Possible}
 use Rattle.fs_linearize.specs.declared.linearizing.Found.TheVariants.{NoOrder, Unknown}
 use Rattle.fs_linearize.specs.declared.first_return.Place.{Place}

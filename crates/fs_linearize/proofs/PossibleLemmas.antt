@@ -20,12 +20,12 @@ use Rattle.fs_histories.proofs.HistoryLemmas.{take_step}
 use Rattle.fs_histories.proofs.PrefixLemmas.{history_take, returned_otherwise, answers_last, answers_due}
 use Rattle.fs_linearize.specs.Possible.{AreDifferent, ArePossible}
 use Rattle.fs_linearize.specs.Results.{IsReturnAt}
-use Rattle.fs_linearize.specs.code.Ways.{GoesBy}
-use Rattle.fs_linearize.specs.code.Searching.{IsSearched}
+use Rattle.fs_configurations.specs.code.Ways.{GoesBy}
+use Rattle.fs_linearize.specs.code.Searched.{IsSearched}
 use Rattle.fs_linearize.specs.code.Replies.{IsAnother}
 use Rattle.fs_linearize.specs.declared.search.Searched.{Searched}
 use Rattle.fs_linearize.specs.declared.search.Searched.TheVariants.{Ends}
-use Rattle.fs_linearize.specs.declared.steps.Step.{Step}
+use Rattle.fs_configurations.specs.declared.steps.Step.{Step}
 use Rattle.fs_linearize.specs.declared.replies.Another.{Another}
 use Rattle.fs_linearize.specs.declared.replies.Possible.{Possible}
 use Rattle.fs_linearize.specs.declared.replies.TheConstants.{MOST_REPLIES}

@@ -9,15 +9,15 @@ use Rattle.fs_histories.specs.declared.heard.Heard.TheVariants.{Begin, Return}
 use Rattle.fs_histories.specs.Histories.{HasNoFront}
 use Rattle.fs_histories.specs.Configurations.{Configuration, is_in}
 use Rattle.fs_histories.specs.Early.{SettlesIn}
-use Rattle.fs_linearize.specs.code.Replies.{is_held, Returns, CanPass}
-use Rattle.fs_linearize.specs.code.Searching.{WidensFor, HasPassed, PassesAll}
-use Rattle.fs_linearize.specs.code.Ways.{configurations}
-use Rattle.fs_linearize.specs.declared.reached.Reached.{Reached}
-use Rattle.fs_linearize.specs.declared.steps.Link.{Link}
-use Rattle.fs_linearize.specs.declared.under_way.UnderWay.{UnderWay}
+use Rattle.fs_configurations.specs.code.Stopping.{is_held, Returns, CanPass}
+use Rattle.fs_configurations.specs.code.Searching.{WidensFor, HasPassed, PassesAll}
+use Rattle.fs_configurations.specs.code.Ways.{configurations}
+use Rattle.fs_configurations.specs.declared.reached.Reached.{Reached}
+use Rattle.fs_configurations.specs.declared.steps.Link.{Link}
+use Rattle.fs_configurations.specs.declared.under_way.UnderWay.{UnderWay}
 use Rattle.fs_linearize.proofs.FindingLemmas.{Stands, no_order}
-use Rattle.fs_linearize.proofs.SearchLemmas.{none_there}
-use Rattle.fs_linearize.proofs.WayLemmas.{keeps_same, contains_way}
+use Rattle.fs_configurations.proofs.SearchLemmas.{none_there}
+use Rattle.fs_configurations.proofs.WayLemmas.{keeps_same, contains_way}
 
 -- ---- whether a call has committed in a configuration
 

@@ -18,12 +18,12 @@ use Rattle.fs_histories.specs.declared.heard.Pattern.{Pattern}
 use Rattle.fs_histories.specs.declared.heard.Pattern.TheVariants.{Exactly}
 use Rattle.fs_histories.specs.Heard.{Matches}
 use Rattle.fs_histories.proofs.HistoryLemmas.{some_from, committed_of_other, commits_of_none, played_commit}
-use Rattle.fs_linearize.specs.code.Ways.{GoesBy}
+use Rattle.fs_configurations.specs.code.Ways.{GoesBy}
 use Rattle.fs_linearize.specs.code.Tellings.{IsPlayed, PlaysOn, IsFilledIn, IsEntryFor, IsTold, TellsOn}
 use Rattle.fs_linearize.specs.declared.telling.Played.{Played}
 use Rattle.fs_linearize.specs.declared.telling.Telling.{Telling}
-use Rattle.fs_linearize.specs.declared.steps.Step.{Step}
-use Rattle.fs_linearize.specs.declared.steps.Step.TheVariants.{Passes, Commits}
+use Rattle.fs_configurations.specs.declared.steps.Step.{Step}
+use Rattle.fs_configurations.specs.declared.steps.Step.TheVariants.{Passes, Commits}
 
 -- ---- replies that are due
 

@@ -1,5 +1,5 @@
 -- Searches that went on for as long as they might.
-use Rattle.std.specs.Prelude.{◌≡◌, ◌+◌, ◌≤◌, ℕ, List, [], ◌∷◌, length, Contains}
+use Rattle.std.specs.Prelude.{◌≡◌, ◌+◌, ◌≤◌, ℕ, List, length, Contains}
 use Rattle.fs_calls.specs.Starts.{Start}
 use Rattle.fs_timeline.specs.declared.entry.Entry.{Entry}
 use Rattle.fs_linearizable.specs.Linearizable.{history}
@@ -7,11 +7,7 @@ use Rattle.fs_histories.specs.declared.heard.Heard.{Heard}
 use Rattle.fs_histories.specs.Histories.{ExplainsFront}
 use Rattle.fs_histories.specs.Configurations.{Configuration}
 use Rattle.fs_histories.specs.Paths.{LeadsTo}
-
--- no configuration is there twice
-abbrev pub AreApart : List Configuration → Type 0
-AreApart [] = Unit {0}
-AreApart (x ∷ xs) = (Contains xs x → ⊥) × AreApart xs
+use Rattle.fs_configurations.specs.Apart.{AreApart}
 
 -- so many different configurations were made, each of a timeline that explains a front, and one is before the entry of this place
 pub record WasLimited (start : Start) (h : List Heard) (limit place : ℕ) : Type 0 where

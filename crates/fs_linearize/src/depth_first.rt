@@ -4,19 +4,19 @@ ghost use Rattle.std.specs.Prelude.{◌≡◌, ◌+◌, ℕ, false, Some, Contai
 ghost use Rattle.fs_calls.specs.Starts.{Start};
 ghost use Rattle.fs_histories.specs.declared.heard.Heard.{Heard as Value};
 ghost use Rattle.fs_histories.specs.Histories.{IsHistory};
-ghost use Rattle.fs_linearize.specs.code.Calls.{AreEach};
-ghost use Rattle.fs_linearize.specs.code.Searching.{waits};
+ghost use Rattle.fs_configurations.specs.code.Calls.{AreEach};
+ghost use Rattle.fs_configurations.specs.code.Searching.{waits};
 ghost use Rattle.fs_linearize.specs.code.DepthFirst.{IsHere, GoesOn, IsChoice, AreChoices, FindsWay, TakesUp, IsOrder};
 ghost use Rattle.fs_linearize.specs.declared.depth_first.Choice.{Choice as Way};
-ghost use Rattle.fs_linearize.specs.declared.steps.Link.{Link as Shared};
+ghost use Rattle.fs_configurations.specs.declared.steps.Link.{Link as Shared};
 
-use crate::configuration::Configuration;
-use crate::reached::Reached;
-use crate::steps::{Link, Step};
 use crate::turns::{Turn, Turns};
-use crate::under_way::{self, UnderWay};
-use crate::ways::steps_to;
-use crate::{committing, meeting, passing};
+use fs_configurations::configuration::Configuration;
+use fs_configurations::reached::Reached;
+use fs_configurations::steps::{Link, Step};
+use fs_configurations::under_way::{self, UnderWay};
+use fs_configurations::ways::steps_to;
+use fs_configurations::{committing, meeting, passing};
 use fs_histories::Heard;
 use fs_seq::SeqTree;
 use std::alloc::{AllocError, Global};
@@ -25,7 +25,7 @@ use std::collections::BTreeMap;
 /// So many choices are kept to go back to.
 const KEPT: usize = 128;
 
-/// A configuration that was reached, and the calls that are under way there.
+/// A configuration that was reached, and the calls that are pending there.
 #[derive(Drop)]
 pub(crate) struct Here<'a> {
     pub reached: Reached,

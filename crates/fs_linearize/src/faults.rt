@@ -15,8 +15,8 @@ use fs_histories::{Heard, HistoryFault};
 use std::alloc::{AllocError, Global};
 use std::collections::BTreeMap;
 
-/// What entries tell: which calls have begun and which have returned, by their numbers, and the last call on each seat.
-/// Numbers are untrusted input: they stand in search trees, since without a keyed hash all could fall into one bucket.
+/// What entries say: which calls have begun and which have returned, by their numbers, and the last call on each seat.
+/// Numbers are untrusted input, so they are in search trees: without a keyed hash all could fall into one bucket.
 #[derive(Drop)]
 struct Known {
     begun: BTreeMap<u64, bool>,
@@ -25,7 +25,7 @@ struct Known {
 }
 
 impl Known {
-    /// No entry has told anything.
+    /// No entry has come yet.
     fn new(alloc: Global) -> Self
         ensures { IsKnown [] result }
     {

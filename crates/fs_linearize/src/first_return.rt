@@ -2,7 +2,7 @@
 
 ghost use Rattle.std.specs.Prelude.{◌≡◌, ◌+◌, ◌<◌, ◌≤◌, IfOk, IfSome, IfNone};
 ghost use Rattle.fs_histories.specs.Histories.{IsHistory, HasNoFront};
-ghost use Rattle.fs_linearize.specs.code.Searching.{IsPlace};
+ghost use Rattle.fs_linearize.specs.code.Searched.{IsPlace};
 
 use crate::progress::Progress;
 use crate::search::{Searched, find_way};
@@ -20,7 +20,7 @@ pub(crate) enum Place {
     Limited(usize),
 }
 
-/// A place between two, by so many steps behind the lower one, or as many as there are.
+/// A place between two, by so many steps after the lower one, or as many as there are.
 fn between(low: usize, high: usize, step: usize) -> Option<usize>
     ensures some { IfSome result (λ middle. (low < middle) × (middle < high)) }
     ensures none { IfNone result (high ≤ low + 1) }

@@ -4,7 +4,7 @@ ghost use Rattle.std.specs.Prelude.{◌≡◌, IfOk};
 ghost use Rattle.fs_histories.specs.Faults.{history_fault};
 ghost use Rattle.fs_histories.specs.Histories.{IsHistory, HasNoFront};
 ghost use Rattle.fs_linearize.specs.Results.{IsAnswerFor, fault_in, TellsLinearizable};
-ghost use Rattle.fs_linearize.specs.code.Searching.{IsRefused};
+ghost use Rattle.fs_linearize.specs.code.Searched.{IsRefused};
 
 use crate::faults::first_fault;
 use crate::first_return::{Place, first_place};
@@ -70,8 +70,8 @@ fn refused<P: Progress>(
     }
 }
 
-/// Puts the commits into a history that begins at a start tree, where no search makes more configurations than the limit, or few
-/// more; and tells how far that is.
+/// Puts the commits into a history that begins at a start tree, and reports how far that is. No search makes more
+/// configurations than the limit, or few more.
 pub fn linearize<P: Progress>(
     alloc: Global,
     start: &SeqTree,

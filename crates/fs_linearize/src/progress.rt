@@ -1,15 +1,15 @@
-//! Who is told how far a search is.
+//! Who learns how far a search is.
 
-/// Who is told how far a search is. What is found does not depend on it.
+/// Learns how far a search is. What is found does not depend on it.
 pub trait Progress {
     /// Of so many entries the first ones have passed, for which so many configurations were made.
     fn passed(&mut self, entries: usize, all: usize, configurations: usize);
 
-    /// Of so many lines the first ones were read, and what is found of the histories that they tell.
+    /// So many of all lines were read, the first ones, and what is found of the histories in them.
     fn read(&mut self, lines: usize, all: usize);
 }
 
-/// Nobody is told.
+/// Nobody learns it.
 #[derive(Clone, Copy, Debug)]
 pub struct Untold;
 

@@ -62,7 +62,7 @@ fn one_more<P: Progress>(
     }
 }
 
-/// Entries, the replies that a call could have behind them, and one more.
+/// Entries, the replies that a call could have after them, and one more.
 #[derive(Drop)]
 struct Asked {
     before: Vec<Heard>,
@@ -80,7 +80,7 @@ fn excepted(alloc: Global, entry: Option<Heard>) -> Vec<Reply>
     }
 }
 
-/// Asks for a reply that the call of a number could have behind entries, other than those that are known.
+/// Asks for a reply that the call of a number could have after entries, other than those that are known.
 fn ask<P: Progress>(
     alloc: Global,
     start: &SeqTree,
@@ -106,7 +106,7 @@ fn ask<P: Progress>(
     })
 }
 
-/// The replies that the call of a number could have behind entries.
+/// The replies that the call of a number could have after entries.
 pub(crate) fn possible_replies<P: Progress>(
     alloc: Global,
     start: &SeqTree,

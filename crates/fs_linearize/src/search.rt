@@ -2,19 +2,20 @@
 
 ghost use Rattle.std.specs.Prelude.{◌≡◌, ◌+◌, IfOk};
 ghost use Rattle.fs_histories.specs.Histories.{IsHistory};
-ghost use Rattle.fs_linearize.specs.code.Searching.{IsFirst, IsSearched};
+ghost use Rattle.fs_configurations.specs.code.Searching.{IsFirst};
+ghost use Rattle.fs_linearize.specs.code.Searched.{IsSearched};
 
-use crate::configuration::Configuration;
 use crate::depth_first::one_order;
-use crate::layer::Layer;
-use crate::passing::pass;
 use crate::progress::Progress;
-use crate::reached::Reached;
-use crate::steps::{Link, Step};
-use crate::stopping::unheld;
-use crate::under_way;
-use crate::ways::steps_to;
-use crate::widening::widen;
+use fs_configurations::configuration::Configuration;
+use fs_configurations::layer::Layer;
+use fs_configurations::passing::pass;
+use fs_configurations::reached::Reached;
+use fs_configurations::steps::{Link, Step};
+use fs_configurations::stopping::unheld;
+use fs_configurations::under_way;
+use fs_configurations::ways::steps_to;
+use fs_configurations::widening::widen;
 use fs_histories::Heard;
 use fs_names::CallNo;
 use fs_seq::SeqTree;

@@ -5,11 +5,11 @@ ghost use Rattle.fs_calls.specs.Outcomes.{next_start};
 ghost use Rattle.fs_timeline.specs.Timeline.{begun_as, call_of, with_call, reply_after, has_committed, due, IsWellFormed, IsLawful};
 ghost use Rattle.fs_timeline.specs.declared.entry.Entry.{Entry};
 ghost use Rattle.fs_histories.specs.declared.heard.Pattern.{Pattern as Known};
-ghost use Rattle.fs_linearize.specs.code.Ways.{GoesBy};
+ghost use Rattle.fs_configurations.specs.code.Ways.{GoesBy};
 ghost use Rattle.fs_linearize.specs.code.Tellings.{PlaysOn, IsFilledIn, IsEntryFor, TellsOn};
 
-use crate::steps::Step;
 use fs_calls::{Call, Reply};
+use fs_configurations::steps::Step;
 use fs_histories::{Heard, Pattern};
 use fs_names::CallNo;
 use fs_seq::SeqTree;
@@ -82,7 +82,7 @@ pub(crate) fn chosen(one: bool, reply: Option<Reply>, other: Option<Reply>) -> O
     if one { reply } else { other }
 }
 
-/// Plays one entry more, which stands behind those before it.
+/// Plays one entry more, which comes after those before it.
 fn play_entry(
     alloc: Global,
     played: Played,
@@ -150,9 +150,11 @@ fn reply_of(
 {
     match pattern {
         Pattern::Exactly(reply) => Ok(reply),
-        Pattern::AnyError | Pattern::AnyDirectory | Pattern::Except(_) => {
-            Ok(filled_in(alloc, start, journal, number)?)
-        }
+        Pattern::AnyError
+        | Pattern::OneOf(_)
+        | Pattern::AnyDirectory
+        | Pattern::Except(_)
+        | Pattern::Anything => Ok(filled_in(alloc, start, journal, number)?),
     }
 }
 

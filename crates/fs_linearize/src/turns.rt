@@ -3,7 +3,7 @@
 
 ghost use Rattle.std.specs.Prelude.{◌≡◌, ◌⊎◌, Some, Contains, IfSome};
 
-use crate::under_way::UnderWay;
+use fs_configurations::under_way::UnderWay;
 use fs_histories::Heard;
 use std::alloc::{AllocError, Global};
 use std::collections::BTreeMap;
@@ -29,7 +29,7 @@ pub(crate) struct Turns {
     places: BTreeMap<u64, usize>,
 }
 
-/// The one call, or the other one if its turn comes sooner, and behind the last.
+/// The one call, or the other one if its turn comes sooner, and after the last.
 fn sooner<'a>(
     one: Option<(UnderWay<'a>, Turn)>,
     other: &UnderWay<'a>,
@@ -73,7 +73,7 @@ impl Turns {
         }
     }
 
-    /// The call of these whose turn is the next one behind the last.
+    /// The call of these whose turn is the next one after the last.
     pub fn next<'a>(&self, calls: &[UnderWay<'a>], last: Turn) -> Option<(UnderWay<'a>, Turn)>
         ensures { IfSome result (λ found. Contains calls.now found.0) }
     {

@@ -7,7 +7,7 @@ use Rattle.fs_litmus.specs.declared.assertion.Quantifier.{Quantifier}
 use Rattle.fs_litmus.specs.declared.assertion.Quantifier.TheVariants.{Never, Always, Sometimes}
 use Rattle.fs_find.specs.declared.what.Clause.{Clause}
 
-said : (q : Quantifier) (script : Script) (what : List Clause) (seed runs : ℕ) (decided : Option ℕ) → IsFoundWhere (deciding q) script what seed runs decided
+said : (q : Quantifier) (script : Script) (what : List (List Clause)) (seed runs : ℕ) (decided : Option ℕ) → IsFoundWhere (deciding q) script what seed runs decided
     → (holds q decided ≡ true → IsSo q script what seed runs) × (holds q decided ≡ false → IsBroken q script what seed runs)
 said Never script what seed runs None is = (λ h. is, λ h. absurd cc)
 said Never script what seed runs (Some n) is = (λ h. absurd cc, λ h. (n, is.from, is.below, is.has))

@@ -51,21 +51,21 @@ all_hold (a ∷ more) (d ∷ ds) = holds a.quantifier d && all_hold more ds
 -- ---- what that says of all the runs
 
 -- each of them has what is said, or each has it not
-abbrev pub EachHas : Bool → Script → List Clause → ℕ → ℕ → Type 0
+abbrev pub EachHas : Bool → Script → List (List Clause) → ℕ → ℕ → Type 0
 EachHas b script what seed runs = (k : ℕ) → seed ≤ k → k < seed + runs → RunHas (Seeded k) script what b
 
 -- one of them has it, or one has it not
-abbrev pub OneHas : Bool → Script → List Clause → ℕ → ℕ → Type 0
+abbrev pub OneHas : Bool → Script → List (List Clause) → ℕ → ℕ → Type 0
 OneHas b script what seed runs = (k : ℕ) × (seed ≤ k) × (k < seed + runs) × RunHas (Seeded k) script what b
 
 -- none has it; each has it; one has it
-abbrev pub IsSo : Quantifier → Script → List Clause → ℕ → ℕ → Type 0
+abbrev pub IsSo : Quantifier → Script → List (List Clause) → ℕ → ℕ → Type 0
 IsSo Never script what seed runs = EachHas false script what seed runs
 IsSo Always script what seed runs = EachHas true script what seed runs
 IsSo Sometimes script what seed runs = OneHas true script what seed runs
 
 -- one has it; one has it not; none has it
-abbrev pub IsBroken : Quantifier → Script → List Clause → ℕ → ℕ → Type 0
+abbrev pub IsBroken : Quantifier → Script → List (List Clause) → ℕ → ℕ → Type 0
 IsBroken Never script what seed runs = OneHas true script what seed runs
 IsBroken Always script what seed runs = OneHas false script what seed runs
 IsBroken Sometimes script what seed runs = EachHas false script what seed runs

@@ -5,7 +5,7 @@ ghost use Rattle.fs_find.specs.Reading.{what_of};
 ghost use Rattle.fs_find.specs.code.Answers.{Says};
 ghost use Rattle.fs_litmus.specs.Asserts.{all_hold, deciding, holds, word_of};
 
-use fs_find::{Clause, WhatFault, read_what};
+use fs_find::{Clauses, WhatFault, read_what};
 use std::alloc::Global;
 
 /// How many of the runs have something: the words of `herd7` for these are `~exists`, `forall` and `exists`.
@@ -57,7 +57,7 @@ impl Quantifier {
 pub struct Assertion<'a> {
     pub quantifier: Quantifier,
     pub text: &'a str,
-    pub what: Vec<Clause>,
+    pub what: Vec<Clauses>,
 }
 
 /// The assertion that words say.

@@ -11,14 +11,14 @@ pub enum Refusal {
     OutOfMemory,
     /// The call reserves a number, and all are in use.
     Full,
-    /// The seat has a call under way.
+    /// The seat has a pending call.
     SeatBusy,
 }
 
 /// What a step did.
 #[derive(Drop)]
 pub enum Stepped {
-    /// No call is under way on the seat.
+    /// No call is pending on the seat.
     Idle,
     /// The call took this node.
     Took(NodeNo),
@@ -32,6 +32,6 @@ pub enum Stepped {
     Committed,
     /// The call, whose place another one gave it, made its change and fixed its reply.
     CarriedOut,
-    /// The call returned this reply, and is under way no more.
+    /// The call returned this reply, and is not pending any more.
     Returned(Reply),
 }

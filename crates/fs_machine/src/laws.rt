@@ -19,7 +19,7 @@ pub fn steps_add_their_entries()
     ensures { StepsAddTheirEntries }
 {}
 
-/// Below a call that another one has helped no walking call stands.
+/// Below a call that another one has helped there is no walking call.
 pub fn the_lowest_is_helped()
     ensures { TheLowestIsHelped }
 {}

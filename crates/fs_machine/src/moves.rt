@@ -1,4 +1,4 @@
-//! The moves that a call under way may do next.
+//! The moves that a pending call may do next.
 
 ghost use Rattle.std.specs.Prelude.{◌↔◌, IsTrue};
 ghost use Rattle.fs_machine.specs.States.{IsMoved};
@@ -29,7 +29,7 @@ impl Moved {
     }
 }
 
-/// What a call under way does next.
+/// What a pending call does next.
 #[derive(Clone, Copy, Debug, PartialEq, Eq)]
 pub enum Move {
     /// It takes this node.

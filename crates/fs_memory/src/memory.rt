@@ -31,7 +31,7 @@ impl Memory {
         Memory { refusals: 0 }
     }
 
-    /// How often memory was refused; behind the greatest number it begins at 0 again.
+    /// How often memory was refused; after the greatest number it begins at 0 again.
     pub fn refusals(&self) -> u64
         ensures { result ≡ self.now }
     {

@@ -7,6 +7,7 @@ use Rattle.fs_histories.specs.declared.heard.Heard.{Heard}
 use Rattle.fs_io.specs.declared.shell.Made.{Made}
 use Rattle.fs_words.specs.declared.fault.ScriptFault.{ScriptFault}
 use Rattle.fs_verdict.specs.Devices.{IsSameText, WritesBeginning}
+use Rattle.fs_dialects.specs.declared.dialect.Row.{Row}
 use Rattle.fs_recorded.specs.Texts.{history_of}
 use Rattle.fs_recorded.proofs.FoundLemmas.{known}
 use Rattle.fs_minimal.specs.Minimizing.{IsMinimizing}
@@ -20,5 +21,5 @@ IsTold limit told old new given = (h : Start × List Heard) × (text : List ℕ)
 pub told_made : (limit : ℕ) (told : Minimized) (old new : Option (List ℕ)) (given : Result (Start × List Heard) ScriptFault) (made : Made Minimized) → IsMinimizingOf limit made.end made.text.items given → told ≡ made.end → Appends old new made.text.items → IsTold limit told old new given
 told_made limit told old new given made m end written = (m.0, made.text.items, m.1, subst (λ (t : Minimized). IsMinimizing m.0.0 m.0.1 limit t made.text.items) (sym end) m.2, written)
 
-pub written_made : (r : Option (List ℕ)) (text items : List ℕ) (limit : ℕ) (old new : Option (List ℕ)) (made : Made Minimized) → text ≡ items → IfSome r (IsSameText items) → IsMinimizingOf limit made.end made.text.items (history_of text) → WritesBeginning made.text.items old new → IfSome r (λ input. IsWrittenOf (history_of input) limit old new)
-written_made r text items limit old new made e s m w = known r text items (λ given. IsWrittenOf given limit old new) e s (made.end, made.text.items, m, w)
+pub written_made : (rows : List Row) (r : Option (List ℕ)) (text items : List ℕ) (limit : ℕ) (old new : Option (List ℕ)) (made : Made Minimized) → text ≡ items → IfSome r (IsSameText items) → IsMinimizingOf limit made.end made.text.items (history_of rows text) → WritesBeginning made.text.items old new → IfSome r (λ input. IsWrittenOf (history_of rows input) limit old new)
+written_made rows r text items limit old new made e s m w = known rows r text items (λ given. IsWrittenOf given limit old new) e s (made.end, made.text.items, m, w)

@@ -27,8 +27,10 @@ pub(crate) fn copy_of_pattern(pattern: &Pattern) -> Result<Pattern, AllocError>
     match pattern {
         Pattern::Exactly(reply) => Ok(Pattern::Exactly(copy_of_reply(reply)?)),
         Pattern::AnyError => Ok(Pattern::AnyError),
+        Pattern::OneOf(errors) => Ok(Pattern::OneOf(errors.copy()?)),
         Pattern::AnyDirectory => Ok(Pattern::AnyDirectory),
         Pattern::Except(_) => Err(AllocError),
+        Pattern::Anything => Ok(Pattern::Anything),
     }
 }
 

@@ -13,6 +13,7 @@ use crate::cutting::{cut_by_halves, cut_ones};
 use crate::parts::{calls_in, copies};
 use crate::reason::{Reason, could_be_right};
 use crate::writing::history_text;
+use fs_dialects::Dialect;
 use fs_histories::{Heard, HistoryFault};
 use fs_io::{Made, Sink, Source, transform};
 use fs_linearize::{Found, Possible, Progress, linearize};
@@ -166,12 +167,13 @@ fn minimize<P: Progress>(
 fn minimize_text<P: Progress>(
     alloc: Global,
     text: &[u8],
+    dialect: &Dialect,
     limit: usize,
     progress: &mut P,
 ) -> Result<Made<Minimized>, RunFault>
-    ensures { MakesMinimal (history_of text.now) limit result }
+    ensures { MakesMinimal (history_of dialect.now text.now) limit result }
 {
-    let History { start, entries } = read_history(alloc, text)?;
+    let History { start, entries } = read_history(alloc, text, dialect)?;
     match minimize(alloc, &start, entries, limit, progress) {
         Ok(made) => Ok(made),
         Err(_) => Err(RunFault::OutOfMemory),
@@ -188,6 +190,7 @@ pub fn minimize_history<R: Source, W: Sink, P: Progress>(
     alloc: Global,
     reader: &mut R,
     writer: &mut W,
+    dialect: &Dialect,
     limit: usize,
     progress: &mut P,
 ) -> Result<Minimized, RunFault>
@@ -195,24 +198,24 @@ pub fn minimize_history<R: Source, W: Sink, P: Progress>(
     requires writes { W.failures writer.old < 2 ^ 64 - 1 }
 
     // What is answered and written is what is left of the history that was read.
-    ensures minimal { IfOk result (λ told. IfSome (R.remaining reader.old) (λ input. (h : _) × (text : List ℕ) × (history_of input ≡ Ok h) × IsMinimizing h.0 h.1 limit told text × Appends (W.contents writer.old) (W.contents writer.new) text)) }
+    ensures minimal { IfOk result (λ told. IfSome (R.remaining reader.old) (λ input. (h : _) × (text : List ℕ) × (history_of dialect.now input ≡ Ok h) × IsMinimizing h.0 h.1 limit told text × Appends (W.contents writer.old) (W.contents writer.new) text)) }
     ensures end { OnOk result (IsAtEnd (R.remaining reader.new)) }
-    ensures input { (f : ScriptFault) → result ≡ Err (RunFault.Input f) → IfSome (R.remaining reader.old) (λ input. history_of input ≡ Err f) }
+    ensures input { (f : ScriptFault) → result ≡ Err (RunFault.Input f) → IfSome (R.remaining reader.old) (λ input. history_of dialect.now input ≡ Err f) }
     ensures full { result ≢ Err RunFault.Full }
     ensures under_way { (call : ℕ) → result ≢ Err (RunFault.UnderWay call) }
 
     // A device is blamed only where it failed in this call; after a failed write a beginning of the text stands, and after every
     // other error nothing was written.
     ensures devices { KeepsDevices R.failures W.failures reader.old reader.new writer.old writer.new RunFault.Read RunFault.Write result }
-    ensures beginning { IsErrOf result RunFault.Write → IfSome (R.remaining reader.old) (λ input. IsWrittenOf (history_of input) limit (W.contents writer.old) (W.contents writer.new)) }
+    ensures beginning { IsErrOf result RunFault.Write → IfSome (R.remaining reader.old) (λ input. IsWrittenOf (history_of dialect.now input) limit (W.contents writer.old) (W.contents writer.new)) }
 {
     let ended = transform(
         alloc,
         reader,
         writer,
         |text| -> Result<Made<Minimized>, RunFault>
-            ensures { MakesMinimal (history_of text.items) limit result }
-        { minimize_text(alloc, text.as_slice(), limit, progress) },
+            ensures { MakesMinimal (history_of dialect.entry.now text.items) limit result }
+        { minimize_text(alloc, text.as_slice(), dialect, limit, progress) },
     );
     match ended {
         Ok(told) => Ok(told),

@@ -55,7 +55,7 @@ fn refused<P: Progress>(
     Ok(None)
 }
 
-/// Takes out calls, and what is behind the first return that nothing explains then; and answers whether they went.
+/// Takes out calls, and what comes after the first return that nothing explains then; and answers whether they went.
 pub(crate) fn cut<P: Progress>(
     alloc: Global,
     start: &SeqTree,

@@ -2,10 +2,11 @@
 
 ghost use Rattle.std.specs.Prelude.{◌≡◌, ◌++◌, IfOk, OnOk, codes, decimal};
 ghost use Rattle.fs_text.specs.Journal.{entry_line};
-ghost use Rattle.fs_minimal.specs.Texts.{heard_line, return_line, history_text};
+ghost use Rattle.fs_minimal.specs.Texts.{heard_line, errors_line, return_line, history_text};
 
 use fs_calls::Reply;
-use fs_histories::{Heard, Pattern};
+use fs_dialects::write_errors;
+use fs_histories::{Errors, Heard, Pattern};
 use fs_names::CallNo;
 use fs_script::write_opening;
 use fs_seq::SeqTree;
@@ -13,13 +14,25 @@ use fs_text::{Addition, write_entry};
 use fs_timeline::Entry;
 use std::alloc::{AllocError, Global};
 
-/// The line of the return of a call, with these words behind its number.
+/// The line of the return of a call, with these words after its number.
 fn open_line(alloc: Global, number: CallNo, words: &[u8]) -> Result<Vec<u8>, AllocError>
     ensures { IfOk result (λ line. line.items ≡ codes "return " ++ (decimal number ++ words.now)) }
 {
     let mut line = Addition::new(Vec::new(alloc));
     line.push_with_number(b"return ", number.get())?;
     line.push(words)?;
+    Ok(line.kept())
+}
+
+/// The line of the return of a call that failed by one of these errors.
+fn errors_line(alloc: Global, number: CallNo, errors: &Errors) -> Result<Vec<u8>, AllocError>
+    ensures { IfOk result (λ line. line.items ≡ errors_line number errors.now) }
+{
+    let mut line = Addition::new(Vec::new(alloc));
+    line.push_with_number(b"return ", number.get())?;
+    line.push(b" failed ")?;
+    write_errors(errors.as_slice(), &mut line)?;
+    line.push(b"\n")?;
     Ok(line.kept())
 }
 
@@ -39,8 +52,10 @@ fn return_line(alloc: Global, number: CallNo, pattern: Pattern) -> Result<Vec<u8
     match pattern {
         Pattern::Exactly(reply) => entry_line(alloc, &Entry::Return(number, reply)),
         Pattern::AnyError => open_line(alloc, number, b" failed ?\n"),
+        Pattern::OneOf(errors) => errors_line(alloc, number, &errors),
         Pattern::AnyDirectory => open_line(alloc, number, b" stat dir ?\n"),
         Pattern::Except(_) => entry_line(alloc, &Entry::Return(number, Reply::Done)),
+        Pattern::Anything => open_line(alloc, number, b" ?\n"),
     }
 }
 

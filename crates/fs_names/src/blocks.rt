@@ -1,4 +1,4 @@
-//! Where a byte stands in a short text, a block of bytes at a time.
+//! Where a byte is in a short text, a block of bytes at a time.
 
 ghost use Rattle.std.specs.Prelude.{◌≤◌, length, take};
 ghost use Rattle.memchr.specs.Find.{IsFirst, Passes, is_byte};
@@ -13,7 +13,7 @@ const BLOCK: usize = 16;
 /// After how many bytes the rest is left to `memchr`, which takes longer to begin and is faster then.
 const LONG: usize = 256;
 
-/// Where the byte stands in the first block, a bit for each place.
+/// Where the byte is in the first block, a bit for each place.
 #[inline(always)]
 fn marks_of(byte: u8, text: &[u8]) -> u64
     requires { BLOCK ≤ length text.now }
@@ -24,7 +24,7 @@ fn marks_of(byte: u8, text: &[u8]) -> u64
         .to_bitmask()
 }
 
-/// Where the byte stands first from a place on, where that is likely to be far.
+/// Where the byte comes first from a place on, if that is likely to be far.
 #[inline(never)]
 fn place_afar(byte: u8, text: &[u8], from: usize) -> Option<usize>
     requires { from ≤ length text.now }
@@ -36,8 +36,8 @@ fn place_afar(byte: u8, text: &[u8], from: usize) -> Option<usize>
     }
 }
 
-/// Where the byte stands first from a place on, in a text of a block or more. The last block ends with the text, so some of
-/// its bytes may stand before that place.
+/// Where the byte comes first from a place on, in a text of a block or more. The last block ends with the text, so some
+/// of its bytes may come before that place.
 #[inline(always)]
 fn place_by_blocks(byte: u8, text: &[u8], start: usize) -> Option<usize>
     requires long { BLOCK ≤ length text.now }
@@ -63,7 +63,7 @@ fn place_by_blocks(byte: u8, text: &[u8], start: usize) -> Option<usize>
     Some(from + rest.trailing_zeros() as usize)
 }
 
-/// Where the byte stands first from a place on.
+/// Where the byte comes first from a place on.
 #[inline(always)]
 pub fn place_from(byte: u8, text: &[u8], start: usize) -> Option<usize>
     requires { start ≤ length text.now }

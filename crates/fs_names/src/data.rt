@@ -9,7 +9,7 @@ use std::alloc::{AllocError, Global};
 use std::marker::Model;
 use std::sync::Arc;
 
-/// The bytes that a call writes, seen as their list. Copies share them: those of a call stand in its script, in the
+/// The bytes that a call writes, seen as their list. Copies share them: those of a call are in its script, in the
 /// record of the call and in the journal, and all are one.
 #[derive(Drop)]
 pub struct Data {

@@ -1,17 +1,16 @@
-//! The words of all other crates: names and paths, the bytes and kinds of nodes, the numbers of calls and seats, the
-//! limits.
+//! The words of all other crates: names and paths, the bytes and kinds of nodes, the numbers of calls and seats, the limits.
 //!
-//! A `Path` is a list of at most 2,048 `Name`s, and the root is the path of none. Contracts see a path as the list of its
-//! names, a name as its bytes, and a number as itself. What `Path::parse` answers is exactly what the specification
-//! says of the bytes. The names of a reply stand in a `NameList`, and `order` says how names, and keys, stand to each other.
+//! A `Path` is a list of at most 2,048 `Name`s, and the root is the path of none. Contracts see a path as the list of its names, a name as
+//! its bytes, and a number as itself. `Path::parse` answers exactly what the specification says of the bytes. The names of a reply are in
+//! a `NameList`, and `order` compares names, and keys.
 //!
-//! What may allocate says so by its type: `Path::parse` and `Path::write`, `Name::read_long` where a name has more than 64
-//! bytes, a `NameRoom` once for all its names, `Data::new` what counts its owners. A copy of a path, a name or `Data` shares.
+//! What may allocate says so in its type. `Path::parse` and `Path::write` may, and `Name::read_long` for a name with more than 64 bytes. A
+//! `NameRoom` allocates once for all its names, and `Data::new` for the count of its owners. A copy of a path, a name or `Data` shares.
 //!
-//! Enter at `Path::parse` and `Name::read`; the limits are in the module `limits`, where `Limits` is one of the three sets
-//! of those that differ by version. The definitions are in `specs/`: `Names` (what a name is, and the order), `Heads` (its
-//! first bytes as a number), `Keys` (parent, prefix), `Reading` (how bytes are read), and, for the crates above, `Rooms`
-//! (lists being made), `Shapes` (what is seen of a node) and `Failures` (the first of several checks that fails).
+//! Enter at `Path::parse` and `Name::read`. The limits are in the module `limits`; `Limits` is one of the three sets of those that differ
+//! by version. The definitions are in `specs/`: `Names` (what a name is, and the order), `Heads` (its first bytes as a number), `Keys`
+//! (parent, prefix) and `Reading` (how bytes are read). Those for the crates above are `Rooms` (lists being made), `Shapes` (what is seen
+//! of a node) and `Failures` (the first of several checks that fails).
 #![tactic(auto)]
 
 pub mod blocks;

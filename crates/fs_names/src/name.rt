@@ -17,10 +17,11 @@ use std::sync::Arc;
 /// How many bytes a name has room for: the most that any set of limits allows.
 const NAME_ROOM: usize = 255;
 
-/// How many of them stand in the name itself. The bytes of a longer name are shared by its copies.
+/// How many of them are in the name itself. The bytes of a longer name are shared by its copies.
 const IN_PLACE: usize = 64;
 
-/// Where the bytes of a name stand, behind how many there are: in place, with zeros behind them, or in memory that copies share.
+/// Where the bytes of a name are, with how many there are: in place, with zeros after them, or in memory that copies
+/// share.
 #[derive(Drop)]
 enum Held {
     InPlace(u8, [u8; IN_PLACE]),
@@ -109,7 +110,7 @@ fn in_place(bytes: &[u8]) -> Held
 }
 
 impl Name {
-    /// The bytes as a name that stands in place, where they are one, and else `None`: also of more than 64 bytes.
+    /// The bytes as a name that is kept in place, if they are one, and else `None`. More than 64 bytes are `None` too.
     pub fn read(bytes: &[u8]) -> Option<Name>
         ensures { MatchOption result (can_name_in_place bytes.now ≡ false) (λ n. IsTrue (can_name_in_place bytes.now) × (n ≡ bytes.now)) }
     {
@@ -176,7 +177,7 @@ impl Name {
         }
     }
 
-    /// Its first eight bytes as one number, the first one above all others, with zeros behind the last one.
+    /// Its first eight bytes as one number, the first one above all others, with zeros after the last one.
     #[inline(always)]
     pub fn head(&self) -> u64
         ensures head { IsHead result self.now }

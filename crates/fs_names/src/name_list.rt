@@ -1,4 +1,4 @@
-//! Names of entries, one behind the other.
+//! Names of entries, one after the other.
 
 ghost use Rattle.std.specs.Prelude.{◌≡◌, ◌≢◌, ◌≤◌, ◌<◌, ◌+◌, ◌++◌, ◌∷◌, [], MatchOption, IfSome, IfOk, OnOk, OnErr, length, vec_len, vec_capacity};
 ghost use Rattle.fs_names.specs.Names.{IsName, same_names};
@@ -11,8 +11,8 @@ use fs_memory::Memory;
 use std::alloc::{AllocError, Global};
 use std::marker::Model;
 
-/// Names, seen as their list: those of a directory, in byte order. They stand in one text, each after a slash, which no name
-/// holds: so a list takes one allocation, and a byte beside those of each name.
+/// Names, seen as their list: those of a directory, in byte order. They are in one text, each after a slash, which no
+/// name holds. So a list takes one allocation, and a byte beside those of each name.
 #[derive(Debug, Drop)]
 pub struct NameList {
     text: Vec<u8>,
@@ -49,7 +49,7 @@ impl Model for NameRoom {
     ghost invariant = { λ r. IsNameText r.text.items };
 }
 
-/// The names of a list that are still to be told, in order.
+/// The names of a list that are still to come, in order.
 #[derive(Drop)]
 pub struct Names<'a> {
     text: &'a [u8],
@@ -178,7 +178,7 @@ impl NameList {
 }
 
 impl<'a> Names<'a> {
-    /// The bytes of the next name, or `None` behind the last one.
+    /// The bytes of the next name, or `None` after the last one.
     pub fn next(&mut self) -> Option<&'a [u8]>
         ensures next { MatchOption result (self.old ≡ []) (λ name. self.old ≡ name.now ∷ self.new) }
         ensures named { IfSome result (λ name. IsName name.now) }

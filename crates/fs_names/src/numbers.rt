@@ -34,7 +34,7 @@ impl CallNo {
     }
 }
 
-/// The number of a seat: a seat has at most one call under way at a time.
+/// The number of a seat: a seat has at most one pending call at a time.
 #[derive(Clone, Copy, Debug, PartialEq, Eq, PartialOrd, Ord, Hash)]
 pub struct SeatNo {
     seat: u64,

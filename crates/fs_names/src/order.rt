@@ -1,4 +1,4 @@
-//! How names stand to each other: eight bytes of them are compared as one number.
+//! How names compare: eight bytes of them are compared as one number.
 
 ghost use Rattle.std.specs.Prelude.{◌≡◌, ◌≤◌, length, take};
 ghost use Rattle.fs_names.specs.Keys.{key_cmp};
@@ -8,7 +8,7 @@ ghost use Rattle.fs_names.specs.Heads.{IsHead};
 use crate::name::Name;
 use std::cmp::Ordering;
 
-/// How many bytes of a name stand in its number.
+/// How many bytes of a name are in its number.
 pub const WIDTH: usize = 8;
 
 /// The first eight of at least so many bytes as one number, the first one above all others.
@@ -22,8 +22,8 @@ pub(crate) fn word(bytes: &[u8]) -> u64
     ])
 }
 
-/// How two names stand to each other that have the same first eight bytes. The others are compared eight at a time, and at
-/// the end of the shorter name some that are the same once more.
+/// How two names compare that have the same first eight bytes. The others are compared eight at a time, and at the end
+/// of the shorter name some that are the same once more.
 #[inline(never)]
 pub fn cmp_behind(name: &Name, other: &Name) -> Ordering
     requires { take WIDTH name.now ≡ take WIDTH other.now }
@@ -49,7 +49,7 @@ pub fn cmp_behind(name: &Name, other: &Name) -> Ordering
 }
 
 impl Name {
-    /// How it stands to another name in byte order.
+    /// How it compares with another name in byte order.
     pub fn cmp(&self, other: &Name) -> Ordering
         ensures { result ≡ name_cmp self.now other.now }
     {
@@ -69,7 +69,7 @@ impl Name {
     }
 }
 
-/// How a key stands to another in the order of the entries of a tree: name by name, so that a directory comes before what is
+/// How two keys compare in the order of the entries of a tree: name by name, so that a directory comes before what is
 /// below it.
 pub fn compare_keys(key: &[Name], other: &[Name]) -> Ordering
     ensures { result ≡ key_cmp key.now other.now }

@@ -47,7 +47,7 @@ impl Model for Path {
     ghost invariant = { λ p. IsPath (shared_names (option_map arc_value p.names)) };
 }
 
-/// What is wrong by these limits with the bytes of a name before which so many stand.
+/// What is wrong under these limits with the bytes of a name that comes after so many others.
 #[inline]
 fn name_fault(limits: Limits, before: usize, bytes: &[u8]) -> Option<PathFault>
     ensures { result ≡ name_fault limits before bytes.now }

@@ -1,4 +1,4 @@
-//! How a path stands to its parent, and to another path.
+//! How a path relates to its parent, and to another path.
 
 ghost use Rattle.std.specs.Prelude.{◌≡◌, ◌<◌, ◌≤◌, length};
 ghost use Rattle.fs_names.specs.Keys.{after_prefix, is_proper_prefix, last_of, parent_of, is_end};

@@ -1,4 +1,4 @@
-//! Where the names of a text stand.
+//! Where the names of a text are.
 
 ghost use Rattle.std.specs.Prelude.{◌≡◌, ◌<◌, ◌≤◌, false, ◌∷◌, length};
 ghost use Rattle.std.specs.List.{position_or_len};
@@ -6,7 +6,7 @@ ghost use Rattle.fs_names.specs.Reading.{names, is_slash, starts_at_root};
 
 use crate::blocks::place_from;
 
-/// How many bytes stand before the first slash.
+/// How many bytes come before the first slash.
 #[inline(always)]
 fn name_len(text: &[u8]) -> usize
     ensures first { result ≡ position_or_len is_slash text.now }
@@ -18,7 +18,7 @@ fn name_len(text: &[u8]) -> usize
     }
 }
 
-/// What stands behind the slashes that a text begins with.
+/// What comes after the slashes that a text begins with.
 #[inline]
 pub(crate) fn after_slashes(text: &[u8]) -> &[u8]
     ensures same { names result.now ≡ names text.now }

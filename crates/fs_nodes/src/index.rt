@@ -1,12 +1,12 @@
 //! An index of all entries by their keys: slots, beside the lists of siblings.
 //!
-//! An entry is at home in the slot that its hash says. It stands in one of the `WINDOW` slots from there on, or in none. Each
-//! slot keeps as a home how far the entries at home there reach: none of them stands further on. Where some of them have no
-//! slot, the reach is by so many more than `WINDOW`. So what does not stand within reach is not there, unless the reach says
-//! that it may be. A removal leaves nothing behind but a free slot and a reach that goes back.
+//! An entry is at home in the slot that its hash says. It is in one of the `WINDOW` slots from there on, or in none.
+//! Each slot keeps as a home how far the entries at home there reach: none of them is further on. If some of them have
+//! no slot, the reach is by so many more than `WINDOW`. So what is not within reach is not there, unless the reach says
+//! that it may be. A removal leaves nothing but a free slot and a reach that goes back.
 //!
-//! `put`, `remove` and `seek` promise what they do to every list of keys that the slots are an index of (`IsIndex`); which list
-//! that is, the store's invariant says.
+//! `put`, `remove` and `seek` promise what they do to every list of keys that the slots are an index of (`IsIndex`);
+//! the store's invariant says which list that is.
 
 ghost use Rattle.std.specs.Prelude.{◌≡◌, ◌≢◌, ℕ, ◌+◌, ◌-◌, ◌*◌, ◌<◌, ◌≤◌, [], ◌∷◌, List, Option, Some, None, IfOk, OnOk, OnErr, IfSome, MatchOption, length, slice_set};
 ghost use Rattle.fs_names.specs.declared.limits.TheConstants.{NODE_LIMIT};
@@ -20,7 +20,7 @@ use fs_places::place::key_of_place;
 use fs_places::{Key, Place, Spot};
 use std::alloc::{AllocError, Global};
 
-/// In how many slots from its home on an entry may stand.
+/// In how many slots from its home on an entry may be.
 const WINDOW: usize = 16;
 
 /// How many homes there are at first.
@@ -58,7 +58,7 @@ fn free_slot() -> Slot
     }
 }
 
-/// So many homes, and the slots behind the last one, all free.
+/// So many homes, and the slots after the last one, all free.
 fn free_slots(alloc: Global, memory: &mut Memory, homes: usize) -> Result<Vec<Slot>, AllocError>
     requires some { 0 < homes }
     requires most { homes ≤ 4 * NODE_LIMIT }
@@ -112,7 +112,7 @@ pub fn seek(slots: &[Slot], key: Key) -> Found
     }
 }
 
-/// The first free slot from a home on, if an entry at home there may stand in one.
+/// The first free slot from a home on, if an entry at home there may be in one.
 fn free_from(slots: &[Slot], home: usize) -> Option<usize>
     requires slots { IsTable slots.now }
     requires home { home + WINDOW ≤ length slots.now }

@@ -246,7 +246,7 @@ fn is_lesser(place: &Place, dir: usize, first: u64, name: &Name) -> bool
     is_in_dir(place, dir) && place.name.cmp(first, name) == Ordering::Less
 }
 
-/// A place that was told, if it is that of an entry of the directory with a lesser name.
+/// A place that was named, if it is that of an entry of the directory with a lesser name.
 pub fn lesser(places: &[Place], dir: usize, told: Spot, first: u64, name: &Name) -> Option<usize>
     requires places { IsPlaces places.now }
     requires first { IsHead first name.now }
@@ -265,8 +265,8 @@ pub fn lesser(places: &[Place], dir: usize, told: Spot, first: u64, name: &Name)
     }
 }
 
-/// An entry of the directory with a lesser name, if the tree beside the siblings tells one, and else the one that is given, if
-/// one is.
+/// An entry of the directory with a lesser name, if the tree beside the siblings names one, and else the one that is
+/// given, if one is.
 #[inline(never)]
 fn lesser_told(
     places: &[Place],
@@ -288,7 +288,7 @@ fn lesser_told(
     }
 }
 
-/// Between which siblings a search for a name begins: behind an entry with a lesser one, or before the first entry.
+/// Between which siblings a search for a name begins: after an entry with a lesser one, or before the first entry.
 fn start(places: &[Place], dir: usize, after: Option<usize>) -> (Spot, Spot)
     requires places { IsPlaces places.now }
     requires after { IfSome after (IsEntry (graph_of_places places.now) dir) }
@@ -304,8 +304,8 @@ fn start(places: &[Place], dir: usize, after: Option<usize>) -> (Spot, Spot)
     }
 }
 
-/// The siblings between which an entry of this name belongs, where there is none yet. They are looked for behind an entry with a
-/// lesser name, if one is given.
+/// The siblings between which an entry of this name belongs, if there is none yet. They are looked for after an entry
+/// with a lesser name, if one is given.
 pub fn gap(
     places: &[Place],
     dir: usize,

@@ -29,5 +29,5 @@ found_text (Some n) script = codes "{\"seed\":" ++ (decimal n ++ (codes ",\"scri
 found_text None script = codes "{\"seed\":null}\n"
 
 -- the same of a search of drawn runs of the script that an input has
-abbrev pub IsFoundOf : List Clause → ℕ → ℕ → List ℕ → Option ℕ → List ℕ → Type 0
+abbrev pub IsFoundOf : List (List Clause) → ℕ → ℕ → List ℕ → Option ℕ → List ℕ → Type 0
 IsFoundOf what seed runs input found text = (script : List ℕ) × IsSearchOf what seed runs input found script × (text ≡ found_text found script)

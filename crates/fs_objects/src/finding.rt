@@ -10,10 +10,11 @@ ghost use Rattle.fs_trace.specs.declared.fault.ScheduleFault.TheVariants as sche
 ghost use Rattle.fs_find.specs.Faults.{LacksRoom, IsFaultOfFind};
 ghost use Rattle.fs_find.specs.Finds.{IsSearchOf, LacksCall};
 ghost use Rattle.fs_find.specs.declared.finding.TheConstants.{SEARCH_LIMIT};
+ghost use Rattle.fs_find.specs.declared.what.Clause.{Clause};
 ghost use Rattle.fs_objects.specs.Objects.{found_text, IsFoundOf};
 ghost use Rattle.fs_objects.specs.code.Mades.{MakesFind};
 
-use fs_find::{Clause, FindFault, find_seed};
+use fs_find::{Clauses, FindFault, find_seed};
 use fs_io::{Device, Made, Sink, Source, transform};
 use fs_json::push_string;
 use fs_sched::{RunFault, Witness, between};
@@ -23,7 +24,7 @@ use std::alloc::{AllocError, Global};
 
 /// The fault where memory ran out.
 fn out_of_memory() -> FindFault
-    ensures { (what : List Clause) (first most : ℕ) (input : List ℕ) → IsFaultOfFind what first most input result }
+    ensures { (what : List (List Clause)) (first most : ℕ) (input : List ℕ) → IsFaultOfFind what first most input result }
 {
     FindFault::Schedule(ScheduleFault::Run(RunFault::OutOfMemory))
 }
@@ -32,7 +33,7 @@ fn out_of_memory() -> FindFault
 fn search<Listener: Witness>(
     alloc: Global,
     text: &[u8],
-    what: &[Clause],
+    what: &[Clauses],
     seed: u64,
     runs: u64,
     witness: &mut Listener,
@@ -104,7 +105,7 @@ fn object_of(alloc: Global, found: Option<u64>, script: &[u8]) -> Result<Vec<u8>
 fn find_in<Listener: Witness>(
     alloc: Global,
     text: &[u8],
-    what: &[Clause],
+    what: &[Clauses],
     seed: u64,
     runs: u64,
     witness: &mut Listener,
@@ -133,7 +134,7 @@ pub fn find_object<R: Source, W: Sink, Listener: Witness>(
     alloc: Global,
     reader: &mut R,
     writer: &mut W,
-    what: &[Clause],
+    what: &[Clauses],
     seed: u64,
     runs: u64,
     witness: &mut Listener,

@@ -86,9 +86,9 @@ fn seeds_in<Listener: Witness>(
     }
 }
 
-/// Reads a script to its end, has it run as `run_seeds` does, and writes an object of JSON for each run, one a line: the number from
-/// which it is drawn, and that it is lawful. The answer is whether each is, and by the clauses it is. All is made before the first
-/// byte is written. Whoever is told of progress hears of each run.
+/// Reads a script to its end, runs it as `run_seeds` does, and writes an object of JSON for each run, one a line: the
+/// number from which it is drawn, and that it is lawful. The answer is whether each is, and by the clauses it is. All
+/// is made before the first byte is written. A listener for progress hears of each run.
 pub fn seed_objects<R: Source, W: Sink, Listener: Witness>(
     alloc: Global,
     reader: &mut R,

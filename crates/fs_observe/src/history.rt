@@ -178,7 +178,7 @@ impl<N: Named> Front<N> {
         self.seen.again()
     }
 
-    /// The beginning that a token of the tree's history stands for.
+    /// The beginning that a token of the tree's history means.
     pub fn of(token: &Token, calls: u64) -> Front<N>
         requires book { token.now.book ≡ N.book }
         requires noted { IsNoted token.now.log }

@@ -76,9 +76,9 @@ impl<N: Named> Stamp<N> {
     }
 }
 
-/// A reader of a tree that waits for nobody, for as long as the tree is lent to it. It keeps the list that it last showed
-/// or was told of, which contracts see, with the tree at which it starts. Each such list was published: what readers are
-/// shown is played from it (`IsPlayed` in the rule of the copies), and a stamp is made of a published list alone.
+/// A reader of a tree that waits for nobody, for as long as the tree is lent to it. It keeps the list that it last
+/// showed or learned, which contracts see, with the tree at which it starts. Each such list was published. What readers
+/// are shown is played from it (`IsPlayed` in the rule of the copies), and a stamp is made of a published list alone.
 #[derive(Drop)]
 pub struct Observer<'a, N: Named> {
     reader: Seat,

@@ -192,8 +192,8 @@ impl<N: Named> Publisher<N> {
         })
     }
 
-    /// An observer that was told nothing yet. The error is that none of the reader places is free, or no memory. Whoever
-    /// keeps the publisher says for how long it is lent.
+    /// An observer that has seen nothing yet. The error is that none of the reader places is free, or out of memory.
+    /// Whoever keeps the publisher says for how long it is lent.
     pub fn observer<'a>(&mut self) -> Result<Observer<'a, N>, NoPlace>
         ensures same { self.new ≡ self.old }
         ensures first { IfOk result (λ o. o ≡ record { start = self.old.start; list = [] }) }
@@ -206,7 +206,7 @@ impl<N: Named> Publisher<N> {
         Ok(Observer::new(reader, start.again()))
     }
 
-    /// A stamp of the list of no calls: it tells the start tree.
+    /// A stamp of the list of no calls: it names the start tree.
     pub fn first(&self) -> Stamp<N>
         ensures { result ≡ record { start = self.now.start; list = [] } }
     {
@@ -235,7 +235,8 @@ impl<N: Named> Publisher<N> {
         self.front.len() as usize
     }
 
-    /// Takes in a call after the others. Out of memory the call may stand in the history; it is then the one that comes next.
+    /// Takes in a call after the others. If memory runs out, the history may have the call already; it is then the one
+    /// that comes next.
     pub fn take_in(&mut self, alloc: Global, call: &Call) -> Result<(), AllocError>
         requires { IsPrefix self.old.entered (self.old.taken ++ call.now ∷ []) }
         ensures start { self.new.start ≡ self.old.start }
@@ -258,8 +259,8 @@ impl<N: Named> Publisher<N> {
         append_op(writer, front, held, op)
     }
 
-    /// Shows observers the tree after all calls that were taken in, and tells that list. It waits for observers that still
-    /// read the tree that was shown before the last. Out of memory they see what they saw.
+    /// Shows observers the tree after all calls that were taken in, and answers a stamp of that list. It waits for
+    /// observers that still read the tree that was shown before the last. If memory runs out, they see what they saw.
     pub fn publish<R: Wait>(&mut self, rt: &R) -> Result<Stamp<N>, AllocError>
         ensures start { self.new.start ≡ self.old.start }
         ensures taken { (self.new.taken ≡ self.old.taken) × (self.new.entered ≡ self.old.entered) }

@@ -80,7 +80,7 @@ impl Outcome<Shown, Known> for Publishes {
     ghost then = { λ v x y w. w ≡ y.token ∷ [] };
 }
 
-/// The writer tells a reader which history it is.
+/// The writer says to a reader which history it is.
 pub(crate) struct Tells;
 
 impl Split<Known> for Tells {

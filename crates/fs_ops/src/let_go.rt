@@ -25,7 +25,7 @@ fn release_removed(removed: &mut Option<NodeNo>, node: NodeNo, store: &mut Store
     }
 }
 
-/// A walk lets go of the node behind it.
+/// A walk lets go of the node that it left.
 fn free_walk(walk: &mut Walk)
     ensures { walk.new ≡ way_freed walk.old }
 {
@@ -34,7 +34,7 @@ fn free_walk(walk: &mut Walk)
     }
 }
 
-/// The heads let go of the node behind them.
+/// The heads let go of the node that they left.
 fn free_heads(heads: &mut Fork)
     ensures { heads.new ≡ record heads.old { behind = None } }
 {
@@ -43,7 +43,7 @@ fn free_heads(heads: &mut Fork)
     }
 }
 
-/// What is behind is let go of.
+/// Lets go of the node that was left.
 fn free_behind(stand: &mut Stand)
     ensures walk { stand.new.walk ≡ way_let_go stand.old.fork stand.old.walk }
     ensures fork { stand.new.fork ≡ fork_let_go stand.old.fork }
@@ -56,8 +56,8 @@ fn free_behind(stand: &mut Stand)
 }
 
 impl Op {
-    /// It has let go of a node: of the one behind its walk or its heads, or, once its reply is fixed, of the one taken last. A node that
-    /// it removed leaves the store.
+    /// It has let go of a node. That is the one that its walk or its heads left, or, once its reply is fixed, the one
+    /// taken last. A node that it removed leaves the store.
     pub fn let_go(&mut self, node: NodeNo, store: &mut Store)
         requires spare { is_removed self.old.removed node ≡ true → IsSpare (graph_of store.old) node }
         ensures op { IsLetGo self.old node self.new }

@@ -1,4 +1,4 @@
-//! A call under way.
+//! A pending call.
 
 ghost use Rattle.std.specs.Prelude.{◌≡◌, is_some, option_map};
 ghost use Rattle.fs_calls.specs.Forms.{by_paths};
@@ -10,7 +10,7 @@ use fs_names::Limits;
 use fs_nodes::NodeNo;
 use std::marker::Model;
 
-/// A call under way: a machine of moves over the nodes of a store, which allocates what it needs when it begins.
+/// A pending call: a machine of moves over the nodes of a store, which allocates what it needs when it begins.
 #[derive(Drop)]
 pub struct Op {
     pub(crate) call: Call,
@@ -36,7 +36,8 @@ impl Model for Op {
 }
 
 impl Op {
-    /// The node where the call stands: one with two heads under way stands at its common directory. None: it holds nothing.
+    /// The node that the call has reached. One with two heads on their way is at its common directory. None: it holds
+    /// nothing.
     pub fn position(&self) -> Option<NodeNo>
         ensures { result ≡ option_map (λ st. st.node) self.now.holdings }
     {

@@ -56,7 +56,7 @@ impl Prepared {
         give_back(store, self.reserved());
     }
 
-    /// The call under way, which holds nothing yet.
+    /// The pending call, which holds nothing yet.
     #[inline]
     pub fn open(self) -> Op
         ensures { result ≡ self }

@@ -1,4 +1,4 @@
-//! Where a call stands.
+//! Where a call is.
 
 ghost use Rattle.std.specs.Prelude.{◌≡◌, ◌<◌, ◌++◌, length, option_to_list};
 ghost use Rattle.fs_locks.specs.declared.held.TheConstants.{HELD_LIMIT};
@@ -10,7 +10,7 @@ use fs_locks::Held;
 use fs_nodes::NodeNo;
 use fs_walk::{Fork, Walk};
 
-/// Where a call stands: its walk, the heads of a call on two entries behind that, and a victim.
+/// Where a call is: its walk, then the heads of a call on two entries, and a victim.
 #[derive(Drop)]
 pub struct Stand {
     /// The walk to its target.

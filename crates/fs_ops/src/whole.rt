@@ -1,6 +1,7 @@
-//! A call in one value from its begin on, for a caller that needs no room between: one that makes a call under way of each that
-//! it prepares, and keeps none that waits to set out. `fs_core` prepares and opens apart, since what is prepared is a third of
-//! the size; no run goes through this page.
+//! A call in one value from its begin on, for a caller that needs no room in between.
+//!
+//! Such a caller opens each call that it prepares at once, and keeps none that waits to set out. `fs_core` prepares and
+//! opens apart, since what is prepared is a third of the size; no run uses this module.
 
 ghost use Rattle.std.specs.Prelude.{◌≡◌, ◌≤◌, ◌↔◌, Err, None, IfOk, OnErr, IsSome};
 ghost use Rattle.fs_nodes.specs.Seen.{seen};

@@ -122,6 +122,14 @@ fn page_in(alloc: Global, text: &[u8], schedule: Schedule) -> Result<Made<bool>,
     }
 }
 
+/// The page of a text in memory, as `draw_page` writes it, and whether each call of the script returned, or the journal is lawful.
+pub fn page_bytes(alloc: Global, text: &[u8], schedule: Schedule) -> Result<Made<bool>, DrawFault>
+    ensures page { IfOk result (λ made. IsPageOf schedule text.now made.end made.text.items) }
+    ensures fault { IfErr result (IsFaultOfPicture schedule None text.now) }
+{
+    page_in(alloc, text, schedule)
+}
+
 /// Reads a script to its end, runs it by a schedule and writes a page that plays its run; or reads a journal and writes a page that
 /// plays that, whatever the schedule. The page is one file of HTML, made before its first byte is written, and a function of what is
 /// read and asked for. The answer is whether each call of the script returned, or the journal is lawful.

@@ -7,7 +7,7 @@ pub const BEFORE: &[u8] = br##"<!DOCTYPE html>
 <head>
 <meta charset="utf-8">
 <meta name="viewport" content="width=device-width, initial-scale=1">
-<meta http-equiv="Content-Security-Policy" content="default-src 'none'; img-src data:; style-src 'unsafe-inline'; script-src 'sha256-ErOftlaDNDgW0fvrRvqrCbk+C+yU2h6vscJEZ0MMvlU='">
+<meta http-equiv="Content-Security-Policy" content="default-src 'none'; img-src data:; style-src 'unsafe-inline'; script-src 'sha256-GqoEZ20jPKP3GpQBfHGu6HjFJytc5SNCBUY0L8g8/uM=' 'sha256-TnwU4Xfk8tN8L4U3Pd7Ltm3Y0hj0bYl6ACT6rlSc0a0='">
 <title>AtomFS: a run, event by event</title>
 <style>
 :root {
@@ -42,6 +42,7 @@ button { min-width: 36px; padding: 2px 8px; }
 #lanes rect.wait { fill: var(--wait); }
 #lanes rect.helped { fill: url(#hatch); }
 #lanes rect.dense { fill: var(--edge); }
+#lanes rect.open { fill: none; stroke-dasharray: 3 2; }
 #lanes circle { fill: var(--back); stroke: var(--text); stroke-width: 1.8; }
 #lanes circle.helped { fill: var(--help); stroke: var(--help); }
 #lanes text { fill: var(--text); font-size: 11px; paint-order: stroke; stroke: var(--back); stroke-width: 4px; }
@@ -49,6 +50,13 @@ button { min-width: 36px; padding: 2px 8px; }
 #lanes text.order.helped { fill: var(--back); }
 #lanes line { stroke: var(--bad); stroke-width: 2; }
 #lanes .chosen rect { stroke: var(--text); stroke-width: 2; }
+#lanes .wrong rect { stroke: var(--bad); stroke-width: 2; }
+#lanes .met rect { stroke: var(--help); stroke-width: 3; }
+#lanes g:focus-visible { outline: 2px solid var(--help); outline-offset: 0; }
+#calls li { padding-left: 6px; }
+li.met { box-shadow: inset 3px 0 var(--help); }
+#source { margin: 0 0 8px; padding-left: 16px; font: 14px/1.5 ui-monospace, "DejaVu Sans Mono", Menlo, Consolas, monospace; overflow-wrap: anywhere; }
+#met { min-height: 1.5em; margin: 0; overflow-wrap: anywhere; }
 #parts { display: grid; grid-template-columns: minmax(0, 1fr) minmax(0, 1fr); gap: 0 24px; }
 .mark { background: var(--mark); }
 .dim { color: var(--dim); }
@@ -57,7 +65,7 @@ button { min-width: 36px; padding: 2px 8px; }
 summary { cursor: pointer; margin-top: 12px; }
 img { max-width: 100%; }
 @media (max-width: 700px) { #parts { grid-template-columns: minmax(0, 1fr); } #lanes b { width: 70px; } }
-@media print { #controls, #at, #keys, details { display: none; } .rows { max-height: none; overflow: visible; } .rows ol { height: auto !important; padding: 0 !important; } body { max-width: none; } }
+@media print { #controls, #at, #keys, #met:empty, details { display: none; } #calls li, #events li { height: auto; white-space: pre-wrap; overflow-wrap: anywhere; } .rows { max-height: none; overflow: visible; } .rows ol { height: auto !important; padding: 0 !important; } body { max-width: none; } }
 </style>
 </head>
 <body>
@@ -82,15 +90,17 @@ pub const BETWEEN: &[u8] = br##"</noscript>
 </div>
 <input id="at" type="range" min="0" value="0" aria-label="event">
 <p id="sentence" role="status" aria-live="polite"></p>
+<p id="source" role="status" hidden></p>
 <div id="lanes" class="rows" aria-label="threads"></div>
-<p class="dim"><span id="axis"></span> Blue: not in effect yet, pale where the call waits. Circle: the call takes effect, and its place in the order. Hatched: another call helped it, and its change is still to come. White: in effect, not returned.</p>
+<p class="dim"><span id="axis"></span> Blue: not in effect yet, pale where the call waits. Circle: the call takes effect, and its place in the order. Hatched: another call helped it, and its change is still to come. White: in effect, not returned.<span id="legend"></span></p>
+<p id="met" class="dim" role="status"></p>
 <div id="parts">
 <section><h2>The tree, and who has which node locked</h2><div id="tree" class="rows" tabindex="0"></div></section>
 <section><h2>Calls, in the order in which they take effect</h2><div id="calls" class="rows" tabindex="0"></div></section>
 </div>
 <h2>Events</h2>
 <div id="events" class="rows" tabindex="0"></div>
-<p id="keys" class="dim">Keys: left and right arrow for an event, Page Up and Page Down for a change, Home, End, + and &#8722; for more or fewer events, / to search, space to play.</p>
+<p id="keys" class="dim">Keys: left and right arrow for an event, Page Up and Page Down for a change, Home, End, + and &#8722; for more or fewer events, / to search, space to play. Tab goes from call to call and says which calls each one met, and Enter goes to it.</p>
 <details id="whole"><summary>The whole run as one picture</summary></details>
 </main>
 <svg width="0" height="0" aria-hidden="true"><pattern id="hatch" width="6" height="6" patternUnits="userSpaceOnUse" patternTransform="rotate(45)"><rect width="6" height="6" fill="var(--back)"/><rect width="3" height="6" fill="var(--help)"/></pattern></svg>
@@ -209,7 +219,7 @@ function makeChange(root, effect, words) {
 
 function emptyRun() {
   const lists = {lanes: [], events: [], calls: [], tree: [], ofLane: new Map(), byName: new Map()};
-  return {...lists, orders: 0, unbegun: 0, fault: null, start: directory()};
+  return {...lists, orders: 0, unbegun: 0, fault: null, found: null, replies: "", start: directory()};
 }
 
 function addEvent(run, number, name, what) {
@@ -232,7 +242,7 @@ function followCall(run, call, what, at) {
   if (wait && wait.to === null) wait.to = at;
   if (verb === "waits") call.waits.push({from: at, to: null});
   if (verb === "commits,") Object.assign(call, {commit: at, change: at, order: ++run.orders});
-  if (verb === "carries") call.change = at;
+  if (verb === "makes") call.change = at;
   if (verb === "returns") Object.assign(call, {end: at, reply: rest.join(" ")});
   if (helped) Object.assign(helped, {commit: at, helper: call, order: ++run.orders});
 }
@@ -281,15 +291,30 @@ function readJournal(lines) {
   return run;
 }
 
-// Before a journal a line has the verdict on it.
+// A line of source, whose bytes are escaped; what could hide or turn the words beside it is shown by its number.
+function sourceOf(words) {
+  const text = new TextDecoder().decode(Uint8Array.from(decoded(words), one => one.charCodeAt(0)));
+  return text.replace(/[\p{C}\p{Zl}\p{Zp}]/gu, one => `\\u{${one.codePointAt(0).toString(16)}}`);
+}
+
+// What a line before the text says: the verdict on a journal, what was found of a history, or which line of source made the nth call.
+function readNote(run, note) {
+  const [, kind, words] = /^# (\w+) ?(.*)$/.exec(note) || [], [place, ...rest] = (words || "").split(" ");
+  if (kind === "fault") run.fault = {place: Number(place), kind: rest.join(" ")};
+  if (kind === "history") run.found = place;
+  if (kind === "reply" && words) run.replies += ` ${words[0].toUpperCase()}${words.slice(1)}.`;
+  if (kind === "source" && run.calls[place - 1]) run.calls[place - 1].source = sourceOf(rest.join(" "));
+}
+
 function readRun(text) {
-  const all = text.split("\n").filter(line => line), lines = all[0].startsWith("# ") ? all.slice(1) : all;
-  const run = lines[0].startsWith("atomfs-journal") ? readJournal(lines) : readTrace(lines), fault = /^# fault (\d+) (\w+)$/.exec(all[0]);
-  if (fault) run.fault = {place: Number(fault[1]), kind: fault[2]};
+  const all = text.split("\n").filter(line => line), first = all.findIndex(line => line.startsWith("atomfs-")), lines = all.slice(first);
+  const run = lines[0].startsWith("atomfs-journal") ? readJournal(lines) : readTrace(lines);
+  for (const line of all.slice(0, first)) readNote(run, line);
   const lanes = [...new Set([...run.lanes, ...run.calls.map(call => call.lane)])];
   run.lanes = run.lanes.length ? lanes : lanes.sort(new Intl.Collator("en", {numeric: true}).compare);
   for (const lane of lanes) if (!run.ofLane.has(lane)) run.ofLane.set(lane, []);
   run.ordered = run.calls.filter(call => call.commit !== null).sort((one, other) => one.commit - other.commit);
+  run.unordered = run.calls.filter(call => call.commit === null && call.end !== null);
   run.states = [{at: 0, root: run.start, pending: new Set(), waits: new Map()}];
   return run;
 }
@@ -297,21 +322,21 @@ function readRun(text) {
 // ---- The state after an event: the tree with the calls that hold its nodes, the pending calls, and what they wait for
 
 function goOn(run, state) {
-  const {call, what} = run.events[state.at++], [verb, path] = what.split(" ");
+  const {call, what} = run.events[state.at++], [verb] = what.split(" "), lock = /^(?:un)?locks (\S+?)(?:, (?:removed|locked as \S+))?$/.exec(what);
   if (!call) return;
-  const node = verb === "takes" || verb === "lets" ? nodeAt(state.root, namesOf(path)) : null, effect = /^(?:commits|carries out), (.*)$/.exec(what);
+  const node = lock && nodeAt(state.root, namesOf(lock[1])), effect = /^(?:commits|makes its change), (.*)$/.exec(what);
   state.waits.delete(call);
   if (verb === "begins") state.pending.add(call);
   if (verb === "returns") state.pending.delete(call);
   if (verb === "waits") state.waits.set(call, what.slice(10));
-  if (verb === "takes" && node) node.holder = call;
-  if (verb === "lets" && node && !what.endsWith(" removed")) delete node.holder;
+  if (verb === "locks" && node) node.holder = call;
+  if (verb === "unlocks" && node && !what.endsWith(" removed")) delete node.holder;
   if (effect) makeChange(state.root, effect[1], call.words);
 }
 
 const copyOf = state => ({...state, root: copied(state.root), pending: new Set(state.pending), waits: new Map(state.waits)});
 
-// Some states are kept, the next one after as many events as this one has nodes: so all of them grow with the events alone.
+// Some states are kept, the next one after as many events as this one has nodes and calls: so all of them grow with the events alone.
 function stateAt(run, at) {
   let place = run.states.length - 1;
   while (run.states[place].at > at) place--;
@@ -319,7 +344,7 @@ function stateAt(run, at) {
   for (let due = state.at + 1000; state.at < at; ) {
     goOn(run, state);
     if (place < run.states.length - 1 || state.at < due) continue;
-    due = state.at + Math.max(1000, nodesOf(state.root).length);
+    due = state.at + Math.max(1000, nodesOf(state.root).length + state.pending.size);
     place = run.states.push(copyOf(state)) - 1;
   }
   return state;
@@ -330,6 +355,25 @@ function isRight(run) {
   const lines = nodesOf(stateAt(run, run.events.length).root).map(lineOf);
   const isSame = lines.length === run.tree.length && lines.every((line, at) => run.tree[at].startsWith(line));
   return isSame || !run.tree.length || Boolean(run.fault);
+}
+
+// ---- Calls that met: each began before the other one returned
+
+const meets = (one, other) => one !== other && (one.end === null || other.begin < one.end) && (other.end === null || one.begin < other.end);
+
+// The first of them, and how many more there may be. The calls are in the order of their begins.
+function metBy(run, call, most) {
+  const met = [];
+  for (const other of run.calls) {
+    if (met.length > most || (call.end !== null && other.begin > call.end)) break;
+    if (meets(call, other)) met.push(other);
+  }
+  return met;
+}
+
+function metWords(run, call) {
+  const met = metBy(run, call, 12), names = met.slice(0, 12).map(titled).join(", ");
+  return `${titled(call)} met ${names ? `${names}${met.length > 12 ? ", and more" : ""}` : "no other call"}.`;
 }
 
 // ---- Sentences
@@ -343,18 +387,30 @@ function sentenceOf(run, at) {
   if (at === 0) return run.events.length ? "Before the first event." : "Nothing happens in this run.";
   const {call, what} = run.events[at - 1], [verb, path] = what.split(" "), rest = what.slice(verb.length + 1);
   if (!call) return `${what.replace(/^checkpoint,/, "A checkpoint: the journal begins again here, and")}.`;
-  const held = /, (removed|taken as .*)$/.exec(what), helped = verb === "helps" && run.byName.get(path.slice(0, -1));
+  const helped = verb === "helps" && run.byName.get(path.slice(0, -1));
   switch (verb) {
     case "begins": return `${call.lane} begins ${call.name}: ${call.words}.`;
-    case "takes": return `${titled(call)} locks ${path}.`;
+    case "locks": case "unlocks": return `${titled(call)} ${what.replace(/, (removed|locked as \S+)$/, ", which it has $1")}.`;
     case "waits": return `${titled(call)} waits for ${rest.slice(4).replace(" held by ", ", which ")} has locked.`;
-    case "lets": return `${titled(call)} unlocks ${path}${held ? `, which it has ${held[1].replace("taken", "locked")}` : ""}.`;
     case "helps": return `${titled(call)} is about to move what ${titled(helped)} still works in, at ${what.split(" ").pop()}. So it helps: `
       + `${helped.name} takes effect now, ${nth(helped.order)} in order, before the move. Its change is still to come.`;
-    case "carries": return `${titled(call)} took effect when ${call.helper.name} helped it. Now it makes its change: ${inWords(rest.slice(5))}.`;
+    case "makes": return `${titled(call)} took effect when ${call.helper.name} helped it. Now it makes its change: ${inWords(rest.slice(12))}.`;
     case "returns": return `${titled(call)} returns ${rest}.`;
     default: return `${titled(call)} takes effect, ${nth(call.order)} in order: ${inWords(rest)}.`;
   }
+}
+
+// What is wrong with an entry of a journal or a history.
+const faultWords = run => run.found === "none" ? ` No order explains this reply.${run.replies}` : ` This is wrong: ${run.fault.kind}.`;
+
+// The call of the first entry that is wrong, if one is.
+const faulty = run => run.fault && run.events[run.fault.place - 1] ? run.events[run.fault.place - 1].call : null;
+
+function verdictNews(run) {
+  if (run.found === "lawful") return ["an order explains every reply"];
+  const call = run.found === "none" ? faulty(run) : null;
+  if (call) return [`no order explains that ${call.words} returned ${call.reply}`];
+  return run.fault ? [`entry ${run.fault.place} is wrong: ${run.fault.kind}`] : [];
 }
 
 // What is new in a run, for its headline.
@@ -365,17 +421,22 @@ function newsOf(run) {
   if (helped.length) news.push(`${helped[0].helper.words} helped ${helped[0].words}${more(helped)}`);
   if (left.length) news.push(`${left[0].name} has not returned${more(left)}`);
   if (run.unbegun) news.push(`${run.unbegun} not begun`);
-  if (run.fault) news.push(`entry ${run.fault.place} is wrong: ${run.fault.kind}`);
+  news.push(...verdictNews(run));
   if (!isRight(run)) news.push("THE TREE OF THIS PAGE IS WRONG: it is not the one at the end of the run");
   return news.join("; ");
 }
+
+</script>
+<script>
+"use strict";
+// Shows the run that the script above has read. Words of a run come to the page as text alone.
 
 // ---- Parts of the page
 
 const byId = id => document.getElementById(id);
 const cut = (words, most) => words.length <= most ? words : `${words.slice(0, Math.max(0, most - 1))}\u2026`;
 
-// An element of the page, or of a drawing in it. Words of a run come to the page as text alone.
+// An element of the page, or of a drawing in it.
 function element(name, words = "", values = {}) {
   const isDrawn = /^(svg|g|rect|circle|line|text|title)$/.test(name);
   const one = isDrawn ? document.createElementNS("http://www.w3.org/2000/svg", name) : document.createElement(name);
@@ -407,7 +468,8 @@ class Rows {
 }
 
 // From a long run 200 events are drawn at first; `from` and `to` say which.
-const run = readRun(byId("run").textContent), end = run.events.length, view = {at: 0, from: 0, to: Math.min(end, 200), state: null, timer: null};
+const run = readRun(byId("run").textContent), end = run.events.length;
+const view = {at: 0, from: 0, to: Math.min(end, 200), state: null, timer: null, near: null};
 const rows = {lanes: new Rows("lanes", 44), tree: new Rows("tree", 24), calls: new Rows("calls", 24), events: new Rows("events", 24)};
 
 function contentOf(file) {
@@ -433,9 +495,10 @@ function statusOf(call) {
 
 function callRow(call, isMarked) {
   const place = call.commit !== null && call.commit <= view.at ? `${call.order}. ` : "   ", status = statusOf(call);
-  const row = element("li", place, {title: titleOf(call)});
+  const row = ofCall(element("li", place), call, "");
   row.append(element("span", `${call.name} ${call.words}`, {class: isMarked ? "mark" : ""}));
   row.append(element("span", `  ${status}`, {class: /^. failed/.test(status) ? "bad" : "dim"}));
+  if (call.source) row.append(element("span", `  ${call.source}`, {class: "holder"}));
   return row;
 }
 
@@ -445,19 +508,25 @@ function eventRow({number, call, what}, at) {
   return row;
 }
 
-// A call, and which other calls it met: those that began before its end and ended after its begin.
-function titleOf(call) {
-  const met = [];
-  for (const other of run.calls) {
-    if ((call.end !== null && other.begin > call.end) || met.length > 12) break;
-    if (other !== call && (other.end === null || other.end > call.begin)) met.push(other.name);
-  }
-  return `${titled(call)}${call.reply ? ` returns ${call.reply}` : ""}\nat the same time: ${cut(met.join(", "), 120) || "none"}`;
+// What shows a call, marked if this one met the call at which a reader looks.
+function ofCall(one, call, kind) {
+  one.call = call;
+  one.setAttribute("class", `call ${kind} ${view.near && meets(view.near, call) ? "met" : ""}`);
+  return one;
+}
+
+// Marks the calls that a call met, and says which these are; without a call none.
+function look(call) {
+  if (call === view.near) return;
+  view.near = call;
+  for (const one of document.querySelectorAll(".call")) one.classList.toggle("met", Boolean(call && meets(call, one.call)));
+  byId("met").textContent = call ? metWords(run, call) : "";
 }
 
 // Of calls that are too small to be seen one by one, one in each three pixels is drawn.
 function laneRow(lane, chosen) {
-  const row = element("li"), drawing = element("svg", "", {role: "img", "aria-label": lane}), width = Math.max(200, rows.lanes.box.clientWidth - 120);
+  const row = element("li"), drawing = element("svg", "", {role: "group", "aria-label": lane});
+  const width = Math.max(200, rows.lanes.box.clientWidth - 120);
   const x = at => (at - 0.5 - view.from) / Math.max(1, view.to - view.from) * width;
   drawing.append(element("line", "", {x1: x(view.at), x2: x(view.at), y1: 0, y2: 44}));
   let last = -9;
@@ -472,11 +541,11 @@ function laneRow(lane, chosen) {
 
 function bar(call, x, right, isChosen) {
   const left = x(call.begin), width = right - left, commit = call.commit === null ? right : x(call.commit);
-  const group = element("g", "", {class: isChosen ? "chosen" : ""});
+  const isOpen = call.commit === null && call.end !== null, kind = `${isChosen ? "chosen" : ""} ${call === faulty(run) ? "wrong" : ""}`;
+  const group = ofCall(element("g", "", {tabindex: 0, role: "button", "aria-label": titled(call)}), call, kind);
   const part = (from, to, kind) => group.append(element("rect", "", {x: from, y: 18, width: Math.max(1, to - from), height: 16, class: kind}));
-  group.addEventListener("pointerenter", () => group.querySelector("title") || group.append(element("title", titleOf(call))));
   group.addEventListener("click", () => show(call.commit || call.begin));
-  part(left, width < 4 ? right : commit, width < 4 ? "dense" : "walk");
+  part(left, width < 4 ? right : commit, width < 4 ? "dense" : isOpen ? "open" : "walk");
   if (width < 4) return group;
   for (const {from, to} of width > 40 ? call.waits : []) part(x(from), to === null ? right : x(to), "wait");
   if (call.commit !== null) part(commit, right, "");
@@ -498,8 +567,9 @@ function show(at) {
   view.to = view.from + width;
   byId("at").value = view.at;
   byId("count").textContent = view.at ? `event ${number} (${view.at} of ${end})` : count(end, "event");
-  byId("sentence").textContent = sentenceOf(run, view.at) + (isFault ? ` This is wrong: ${run.fault.kind}.` : "");
+  byId("sentence").textContent = sentenceOf(run, view.at) + (isFault ? faultWords(run) : "");
   byId("sentence").className = isFault ? "bad" : "";
+  byId("source").textContent = (view.at && run.events[view.at - 1].call || {}).source || "";
   draw();
   // A page within another one has no address to write to.
   try { history.replaceState(null, "", `#event=${number}`); } catch { return; }
@@ -509,12 +579,16 @@ function draw() {
   const {what, call} = view.at ? run.events[view.at - 1] : {what: "", call: null}, nodes = nodesOf(view.state.root);
   const touched = new Set(/^(begins|returns)/.test(what) ? [] : what.split(/[ ,]/).filter(word => word[0] === "/"));
   const marked = nodes.map(({names}) => touched.has(pathOf(names))), isDone = other => other.commit !== null && other.commit <= view.at;
-  const listed = [...run.ordered.filter(isDone), ...[...view.state.pending].filter(other => !isDone(other))];
+  const open = run.unordered.filter(other => other.end <= view.at), focused = document.activeElement.call;
+  const listed = [...run.ordered.filter(isDone), ...open, ...[...view.state.pending].filter(other => !isDone(other))];
   rows.tree.show(nodes.length, marked.lastIndexOf(true), place => nodeRow(nodes[place], marked[place]));
   rows.calls.show(listed.length, listed.indexOf(call), place => callRow(listed[place], listed[place] === call));
   rows.events.show(end, view.at - 1, place => eventRow(run.events[place], place + 1));
   rows.lanes.show(run.lanes.length, call ? run.lanes.indexOf(call.lane) : -1, place => laneRow(run.lanes[place], call));
   byId("axis").textContent = end ? `Events ${view.from + 1} to ${view.to} of ${end}, from left to right; the red line is now.` : "";
+  // What had the focus is made anew.
+  const again = focused && [...document.querySelectorAll("g.call")].find(one => one.call === focused);
+  if (again) again.focus({preventScroll: true});
 }
 
 // Shows so many times as many events, around this one.
@@ -536,7 +610,8 @@ function goTo(by, isWanted) {
 
 function find(words, by) {
   byId("found").textContent = "";
-  if (words) goTo(by, ({call, what}) => `${call ? `${call.name} ${call.words} ` : ""}${what}`.includes(words));
+  const textOf = call => call ? `${call.name} ${call.words} ${call.source || ""} ` : "";
+  if (words) goTo(by, ({call, what}) => `${textOf(call)}${what}`.includes(words));
 }
 
 function play(goes) {
@@ -557,7 +632,7 @@ function goToHash() {
   show(later < 0 ? end : later);
 }
 
-const changes = ({what}) => /^(commits|carries|helps)/.test(what);
+const changes = ({what}) => /^(commits|makes|helps)/.test(what);
 const steps = {first: () => show(0), back: () => show(view.at - 1), next: () => show(view.at + 1), last: () => show(end)};
 const actions = {...steps, play: () => play(view.timer === null), wider: () => zoom(2), closer: () => zoom(0.5),
   before: () => goTo(-1, changes), after: () => goTo(1, changes), search: () => byId("find").focus()};
@@ -565,12 +640,15 @@ const keys = {ArrowLeft: "back", ArrowRight: "next", Home: "first", End: "last",
   "+": "closer", "-": "wider", " ": "play", "/": "search"};
 
 function onKey(event) {
-  const action = actions[keys[event.key]], {tagName, type} = event.target;
+  const action = actions[keys[event.key]], {tagName, type} = event.target, call = callAt(event.target);
+  if (call && event.key === "Enter") show(call.commit || call.begin);
   if (!action || type === "search" || event.ctrlKey || event.altKey || event.metaKey || (event.key === " " && tagName === "BUTTON")) return;
   event.preventDefault();
   action();
 }
 
+const callAt = one => one && one.closest && one.closest(".call") ? one.closest(".call").call : null;
+for (const kind of ["pointerover", "focusin"]) document.addEventListener(kind, ({target}) => look(callAt(target) || callAt(document.activeElement)));
 for (const button of document.querySelectorAll("button")) button.addEventListener("click", actions[button.id]);
 byId("at").addEventListener("input", event => show(Number(event.target.value)));
 byId("find").addEventListener("keydown", event => event.key === "Enter" && find(event.target.value, event.shiftKey ? -1 : 1));
@@ -580,6 +658,8 @@ addEventListener("hashchange", goToHash);
 addEventListener("resize", draw);
 addEventListener("beforeprint", () => Object.values(rows).forEach(list => list.draw(200)));
 byId("news").textContent = newsOf(run);
+byId("source").hidden = !run.calls.some(call => call.source);
+byId("legend").textContent = run.unordered.length ? " Dashed: it has no place in the order. Red: what is wrong." : "";
 byId("at").max = end;
 byId("player").hidden = false;
 goToHash();

@@ -1,9 +1,9 @@
-//! A tree beside the entries of a large directory, by which a search begins near its end.
+//! A tree beside the entries of a large directory, with which a search begins near its end.
 //!
-//! Nothing is known of it: of each place that it tells is asked whether it is that of an entry of the directory with a lesser
-//! name, and a step along it changes nothing else. An entry comes into the tree where its directory has `FEW` others, so at most
-//! so many are not in it, and a search goes past no more of these. The tree is a treap: an entry of greater priority is above,
-//! and its priority is the number of its node, mixed.
+//! Nothing is known of it: each place that it names is checked to be that of an entry of the directory with a lesser
+//! name, and a step along it changes nothing else. An entry comes into the tree if its directory has `FEW` others, so
+//! at most so many are not in it, and a search passes no more of these. The tree is a treap: an entry of greater
+//! priority is above, and its priority is the number of its node, mixed.
 
 ghost use Rattle.std.specs.Prelude.{◌≡◌, ◌≤◌, ◌<◌, length};
 ghost use Rattle.fs_names.specs.Heads.{IsHead};
@@ -98,8 +98,8 @@ pub fn greatest_below(places: &[Place], dir: usize, first: u64, name: &Name) -> 
     (low, MOST)
 }
 
-/// What is below a place is parted by a name: lesser entries go to the left of a node, the others to its right. The greatest of
-/// the lesser ones is answered, or else what was told before.
+/// What is below a place is parted by a name: lesser entries go to the left of a node, the others to its right. The
+/// answer is the greatest of the lesser ones, or else the place that was handed in.
 fn split(places: &mut [Place], node: usize, from: Spot, first: u64, name: &Name, told: Spot) -> Spot
     requires most { length places.old ≤ NODE_LIMIT }
     requires first { IsHead first name.now }
@@ -199,7 +199,7 @@ pub fn insert_hint(places: &mut [Place], dir: usize, node: usize, first: u64, na
     }
 }
 
-/// The two sides of a node go together to where it stood.
+/// The two sides of a node go together to where it was.
 fn merge(places: &mut [Place], at: usize, way: Way, left: Spot, right: Spot)
     requires { length places.old ≤ NODE_LIMIT }
     ensures { bared places.new ≡ bared places.old }

@@ -32,7 +32,7 @@ fn folded(a: u64, b: u64) -> u32
     ((product ^ product >> 64) & HASH) as u32
 }
 
-/// The hash of a directory and of a number that stands for a name.
+/// The hash of a directory and of the number of a name.
 fn mixed(dir: usize, word: u64) -> u32
     ensures { result ≡ mixed dir word }
 {
@@ -49,7 +49,7 @@ fn hashed(name: &Name) -> u64
     hasher.finish()
 }
 
-/// The number that stands for a name whose first bytes are this one.
+/// The number of a name whose first bytes are this one.
 fn word_of(first: u64, name: &Name) -> u64
     requires { IsHead first name.now }
     ensures { result ≡ word_of name.now }

@@ -30,7 +30,7 @@ impl Model for Label {
     ghost invariant = { λ l. IsHead l.head l.name };
 }
 
-/// Whether all bytes of a name stand in its number.
+/// Whether all bytes of a name are in its number.
 #[inline(always)]
 pub fn is_short(name: &Name) -> bool
     ensures { result ≡ nat_le (length name.now) WIDTH }
@@ -70,7 +70,7 @@ impl Label {
         Key::new(dir, self.head, &self.name)
     }
 
-    /// How it stands to a name whose first bytes are this number.
+    /// How it compares with a name whose first bytes are this number.
     pub fn cmp(&self, first: u64, name: &Name) -> Ordering
         requires { IsHead first name.now }
         ensures { result ≡ name_cmp self.now name.now }

@@ -1,4 +1,4 @@
-//! What stands in the place of a number.
+//! What is in the place of a number.
 
 ghost use Rattle.std.specs.Prelude.{◌≡◌, ◌++◌, ◌∷◌, [], OnOk, OnErr, Some};
 ghost use Rattle.fs_plain.specs.Stores.{link_of};

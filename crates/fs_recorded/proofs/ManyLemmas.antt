@@ -27,6 +27,7 @@ use Rattle.fs_words.proofs.ReadLemmas.{words_in, with_front, front_twice, words_
 use Rattle.fs_verdict.specs.Devices.{IsFaultOf, IsSameText, WritesBeginning}
 use Rattle.fs_verdict.specs.declared.fault.RunFault.{RunFault}
 use Rattle.fs_verdict.specs.declared.fault.RunFault.TheVariants.{Input, Read, Write, OutOfMemory, Full, UnderWay}
+use Rattle.fs_dialects.specs.declared.dialect.Row.{Row}
 use Rattle.fs_recorded.specs.Texts.{history_by}
 use Rattle.fs_recorded.specs.Many.{is_header, before_pieces, pieces_of, behind, found_line, histories_by, histories_of}
 use Rattle.fs_recorded.specs.Answers.{outcome_of}
@@ -108,15 +109,15 @@ line_more : (fs : List Found) (f : Found) → flat_map found_line (fs ++ f ∷ [
 line_more fs f = flat_map-append found_line fs (f ∷ []) ∙ ap (λ (t : List ℕ). flat_map found_line fs ++ t) (append_nil (found_line f))
 
 -- one history more was found
-pub told_more : (whole : Given) (before limit : ℕ) (piece : List (List ℕ)) (pieces : List (List (List ℕ))) (f : Found) (old new : List Outcome) (text longer : List ℕ)
-    → AreToldFrom whole (histories_by before (piece ∷ pieces)) limit old text → IsFoundIn (behind before (history_by piece)) limit f
-    → new ≡ old ++ outcome_of f ∷ [] → longer ≡ text ++ found_line f → AreToldFrom whole (histories_by (before + length piece) pieces) limit new longer
-told_more whole before limit piece pieces f old new text longer t found pushed written = go (behind before (history_by piece)) refl found
+pub told_more : (rows : List Row) (whole : Given) (before limit : ℕ) (piece : List (List ℕ)) (pieces : List (List (List ℕ))) (f : Found) (old new : List Outcome) (text longer : List ℕ)
+    → AreToldFrom whole (histories_by rows before (piece ∷ pieces)) limit old text → IsFoundIn (behind before (history_by rows piece)) limit f
+    → new ≡ old ++ outcome_of f ∷ [] → longer ≡ text ++ found_line f → AreToldFrom whole (histories_by rows (before + length piece) pieces) limit new longer
+told_more rows whole before limit piece pieces f old new text longer t found pushed written = go (behind before (history_by rows piece)) refl found
   where
     rest : Given
-    rest = histories_by (before + length piece) pieces
+    rest = histories_by rows (before + length piece) pieces
 
-    go : (r : Result (Start × List Heard) ScriptFault) → behind before (history_by piece) ≡ r → IsFoundIn r limit f → AreToldFrom whole rest limit new longer
+    go : (r : Result (Start × List Heard) ScriptFault) → behind before (history_by rows piece) ≡ r → IsFoundIn r limit f → AreToldFrom whole rest limit new longer
     go (Err e) is none = absurd none
     go (Ok h) is one = record {
       histories = t.histories ++ h ∷ [];
@@ -128,13 +129,13 @@ told_more whole before limit piece pieces f old new text longer t found pushed w
     }
 
 -- the fault of a history is that of the text
-pub told_fault : (whole : Given) (before limit : ℕ) (piece : List (List ℕ)) (pieces : List (List (List ℕ))) (outcomes : List Outcome) (text : List ℕ) (fault : RunFault)
-    → AreToldFrom whole (histories_by before (piece ∷ pieces)) limit outcomes text → IsFaultOf (behind before (history_by piece)) fault → IsFaultOf whole fault
-told_fault whole before limit piece pieces outcomes text fault t is =
-    let rest : Given = histories_by (before + length piece) pieces in
+pub told_fault : (rows : List Row) (whole : Given) (before limit : ℕ) (piece : List (List ℕ)) (pieces : List (List (List ℕ))) (outcomes : List Outcome) (text : List ℕ) (fault : RunFault)
+    → AreToldFrom whole (histories_by rows before (piece ∷ pieces)) limit outcomes text → IsFaultOf (behind before (history_by rows piece)) fault → IsFaultOf whole fault
+told_fault rows whole before limit piece pieces outcomes text fault t is =
+    let rest : Given = histories_by rows (before + length piece) pieces in
     let goes : Start × List Heard → Given = λ (x : Start × List Heard). rest >>= λ (xs : List (Start × List Heard)). Ok (x ∷ xs) in
     let adds : List (Start × List Heard) → Given = λ (xs : List (Start × List Heard)). Ok (t.histories ++ xs) in
-    subst (λ (r : Given). IsFaultOf r fault) (sym t.read) (next_fault (behind before (history_by piece) >>= goes) adds fault (next_fault (behind before (history_by piece)) goes fault is))
+    subst (λ (r : Given). IsFaultOf r fault) (sym t.read) (next_fault (behind before (history_by rows piece) >>= goes) adds fault (next_fault (behind before (history_by rows piece)) goes fault is))
 
 pub told_none : (whole : Given) (limit : ℕ) → AreToldFrom whole whole limit [] []
 told_none whole limit = record { histories = []; found = []; read = same whole; true_of = tt; outcomes_are = refl; text_is = refl }
@@ -170,41 +171,41 @@ piece_cut (line ∷ more) k some is few =
     record { pieces = words_cut line more k is; all = omega (arith, one, other, whole, taken, rest, few); some = omega (arith, one, taken) }
 
 -- a piece is found, and the others are left
-pub step_told : (whole : Given) (at count limit : ℕ) (lines left piece : List (Bor (List ℕ))) (old new : List Outcome) (text longer : List ℕ)
+pub step_told : (rows : List Row) (whole : Given) (at count limit : ℕ) (lines left piece : List (Bor (List ℕ))) (old new : List Outcome) (text longer : List ℕ)
     → left ≡ drop at lines → piece ≡ take count left → count ≤ length left
     → IsPieceCut (words_in left) (words_in (take count left)) (words_in (drop count left))
-    → AreToldFrom whole (histories_by at (pieces_of (words_in (drop at lines)))) limit old text
-    → AddsPiece (behind at (history_by (words_in piece))) limit old new text longer
-    → AreToldFrom whole (histories_by (at + count) (pieces_of (words_in (drop (at + count) lines)))) limit new longer
-step_told whole at count limit lines left piece old new text longer rest front few cut told added =
+    → AreToldFrom whole (histories_by rows at (pieces_of (words_in (drop at lines)))) limit old text
+    → AddsPiece (behind at (history_by rows (words_in piece))) limit old new text longer
+    → AreToldFrom whole (histories_by rows (at + count) (pieces_of (words_in (drop (at + count) lines)))) limit new longer
+step_told rows whole at count limit lines left piece old new text longer rest front few cut told added =
     let one : length (words_in piece) ≡ count = length-map piece (λ (w : Bor (List ℕ)). w.now) ∙ ap length front ∙ length-take-le count left few in
     let last : drop count left ≡ drop (at + count) lines = ap (drop count) rest ∙ drop-drop count at lines in
     let pieces : pieces_of (words_in (drop at lines)) ≡ words_in piece ∷ pieces_of (words_in (drop (at + count) lines)) =
     ap (λ (xs : List (Bor (List ℕ))). pieces_of (words_in xs)) (sym rest) ∙ cut.pieces
     ∙ ap (λ (xs : List (Bor (List ℕ))). words_in xs ∷ pieces_of (words_in (drop count left))) (sym front)
     ∙ ap (λ (xs : List (Bor (List ℕ))). words_in piece ∷ pieces_of (words_in xs)) last in
-    subst (λ (n : ℕ). AreToldFrom whole (histories_by (at + n) (pieces_of (words_in (drop (at + count) lines)))) limit new longer) one
-    (told_more whole at limit (words_in piece) (pieces_of (words_in (drop (at + count) lines))) added.found old new text longer
-    (subst (λ (ps : List (List (List ℕ))). AreToldFrom whole (histories_by at ps) limit old text) pieces told) added.true_of added.outcomes added.text_is)
+    subst (λ (n : ℕ). AreToldFrom whole (histories_by rows (at + n) (pieces_of (words_in (drop (at + count) lines)))) limit new longer) one
+    (told_more rows whole at limit (words_in piece) (pieces_of (words_in (drop (at + count) lines))) added.found old new text longer
+    (subst (λ (ps : List (List (List ℕ))). AreToldFrom whole (histories_by rows at ps) limit old text) pieces told) added.true_of added.outcomes added.text_is)
 
 -- a piece has a fault
-pub step_fault : (whole : Given) (at count limit : ℕ) (lines left piece : List (Bor (List ℕ))) (fault : RunFault) (old : List Outcome) (text : List ℕ)
+pub step_fault : (rows : List Row) (whole : Given) (at count limit : ℕ) (lines left piece : List (Bor (List ℕ))) (fault : RunFault) (old : List Outcome) (text : List ℕ)
     → left ≡ drop at lines → piece ≡ take count left
     → IsPieceCut (words_in left) (words_in (take count left)) (words_in (drop count left))
-    → AreToldFrom whole (histories_by at (pieces_of (words_in (drop at lines)))) limit old text
-    → IsFaultOf (behind at (history_by (words_in piece))) fault
+    → AreToldFrom whole (histories_by rows at (pieces_of (words_in (drop at lines)))) limit old text
+    → IsFaultOf (behind at (history_by rows (words_in piece))) fault
     → IsFaultOf whole fault
-step_fault whole at count limit lines left piece fault old text rest front cut told is =
+step_fault rows whole at count limit lines left piece fault old text rest front cut told is =
     let pieces : pieces_of (words_in (drop at lines)) ≡ words_in piece ∷ pieces_of (words_in (drop count left)) =
     ap (λ (xs : List (Bor (List ℕ))). pieces_of (words_in xs)) (sym rest) ∙ cut.pieces
     ∙ ap (λ (xs : List (Bor (List ℕ))). words_in xs ∷ pieces_of (words_in (drop count left))) (sym front) in
-    told_fault whole at limit (words_in piece) (pieces_of (words_in (drop count left))) old text fault
-    (subst (λ (ps : List (List (List ℕ))). AreToldFrom whole (histories_by at ps) limit old text) pieces told) is
+    told_fault rows whole at limit (words_in piece) (pieces_of (words_in (drop count left))) old text fault
+    (subst (λ (ps : List (List (List ℕ))). AreToldFrom whole (histories_by rows at ps) limit old text) pieces told) is
 
 -- no line is left
-pub told_end : (whole : Given) (at limit : ℕ) (lines : List (Bor (List ℕ))) (outcomes : List Outcome) (text : List ℕ) → length lines ≤ at → AreToldFrom whole (histories_by at (pieces_of (words_in (drop at lines)))) limit outcomes text → AreTold whole limit outcomes text
-told_end whole at limit lines outcomes text past told =
-    told_all whole limit outcomes text (subst (λ (ls : List (List ℕ)). AreToldFrom whole (histories_by at (pieces_of ls)) limit outcomes text) (no_words lines at past) told)
+pub told_end : (rows : List Row) (whole : Given) (at limit : ℕ) (lines : List (Bor (List ℕ))) (outcomes : List Outcome) (text : List ℕ) → length lines ≤ at → AreToldFrom whole (histories_by rows at (pieces_of (words_in (drop at lines)))) limit outcomes text → AreTold whole limit outcomes text
+told_end rows whole at limit lines outcomes text past told =
+    told_all whole limit outcomes text (subst (λ (ls : List (List ℕ)). AreToldFrom whole (histories_by rows at (pieces_of ls)) limit outcomes text) (no_words lines at past) told)
 
 -- how many lines stand before a header line, counted one by one
 
@@ -231,14 +232,14 @@ found_in before limit given h f is one = rw is one
 
 -- ---- the text
 
-pub refuses_many : Refuses histories_of
-refuses_many text h = cond-true _ _ _ h
+pub refuses_many : (rows : List Row) → Refuses (histories_of rows)
+refuses_many rows text h = cond-true _ _ _ h
 
-pub many_by : (text : List ℕ) (lines : List (List ℕ)) → is_too_long text ≡ false → lines ≡ lines_of text → histories_by 0 (pieces_of lines) ≡ histories_of text
-many_by text lines short is = ap (λ (ls : List (List ℕ)). histories_by 0 (pieces_of ls)) is ∙ sym (cond-false _ _ _ short)
+pub many_by : (rows : List Row) (text : List ℕ) (lines : List (List ℕ)) → is_too_long text ≡ false → lines ≡ lines_of text → histories_by rows 0 (pieces_of lines) ≡ histories_of rows text
+many_by rows text lines short is = ap (λ (ls : List (List ℕ)). histories_by rows 0 (pieces_of ls)) is ∙ sym (cond-false _ _ _ short)
 
-pub many_too_large : (text : List ℕ) (fault : RunFault) → IsTooLarge text fault → IsFaultOf (histories_of text) fault
-many_too_large text fault h = ⊎_elim (λ e. rw e tt) (λ p. rw p.1 (refuses_many text p.0)) h
+pub many_too_large : (rows : List Row) (text : List ℕ) (fault : RunFault) → IsTooLarge text fault → IsFaultOf (histories_of rows text) fault
+many_too_large rows text fault h = ⊎_elim (λ e. rw e tt) (λ p. rw p.1 (refuses_many rows text p.0)) h
 
 -- what is made, as it is answered and written
 abbrev pub IsToldOf : ℕ → Histories → Option (List ℕ) → Option (List ℕ) → Given → Type 0
@@ -247,9 +248,9 @@ IsToldOf limit told old new given = (text : List ℕ) × IsManyOf given limit to
 pub told_of : (limit : ℕ) (told : Histories) (old new : Option (List ℕ)) (given : Given) (made : Made Histories) → IsManyOf given limit made.end made.text.items → told ≡ made.end → Appends old new made.text.items → IsToldOf limit told old new given
 told_of limit told old new given made is end written = (made.text.items, subst (λ (t : Histories). IsManyOf given limit t made.text.items) (sym end) is, written)
 
-pub written_many : (r : Option (List ℕ)) (text items : List ℕ) (limit : ℕ) (old new : Option (List ℕ)) (made : Made Histories) → text ≡ items → IfSome r (IsSameText items) → IsManyOf (histories_of text) limit made.end made.text.items → WritesBeginning made.text.items old new
-    → IfSome r (λ input. AreWrittenOf (histories_of input) limit old new)
-written_many r text items limit old new made e s is w = known_by histories_of refuses_many r text items (λ given. AreWrittenOf given limit old new) e s (made.end, made.text.items, is, w)
+pub written_many : (rows : List Row) (r : Option (List ℕ)) (text items : List ℕ) (limit : ℕ) (old new : Option (List ℕ)) (made : Made Histories) → text ≡ items → IfSome r (IsSameText items) → IsManyOf (histories_of rows text) limit made.end made.text.items → WritesBeginning made.text.items old new
+    → IfSome r (λ input. AreWrittenOf (histories_of rows input) limit old new)
+written_many rows r text items limit old new made e s is w = known_by (histories_of rows) (refuses_many rows) r text items (λ given. AreWrittenOf given limit old new) e s (made.end, made.text.items, is, w)
 
 pub rest_all : {A : Type 0} (i : ℕ) (xs : List A) → take (length xs - i) (drop i xs) ≡ drop i xs
 rest_all i xs = ap (λ (n : ℕ). take n (drop i xs)) (sym (length-drop i xs)) ∙ take-length (drop i xs)

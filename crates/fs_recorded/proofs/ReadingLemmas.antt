@@ -14,16 +14,21 @@ use Rattle.fs_script.specs.Journals.{journal_of}
 use Rattle.fs_verdict.specs.Devices.{IsFaultOf}
 use Rattle.fs_verdict.specs.declared.fault.RunFault.{RunFault}
 use Rattle.fs_verdict.specs.declared.fault.RunFault.TheVariants.{Input, Read, Write, OutOfMemory, Full, UnderWay}
-use Rattle.fs_recorded.specs.Texts.{known, heard_by, with_marks, marks_in, plain_text, history_by, history_of}
+use Rattle.fs_dialects.specs.declared.dialect.Row.{Row}
+use Rattle.fs_dialects.specs.Dialects.{widened}
+use Rattle.fs_recorded.specs.Texts.{with_table, known, heard_by, with_marks, marks_in, plain_text, history_by, history_of}
 use Rattle.fs_recorded.specs.code.Walks.{left_by}
 use Rattle.fs_recorded.specs.code.Makes.{IsTooLarge}
 use Rattle.fs_recorded.proofs.FoundLemmas.{no_history}
 use Rattle.fs_recorded.specs.declared.marks.Mark.{Mark}
 
-pub read_ok : (lines : List (List ℕ)) (plain : List ℕ) (marks : List (Option Mark)) (start : Start) (es : List Entry) (heard : List Heard) → plain ≡ plain_text lines → marks ≡ marks_in lines → journal_of plain ≡ Ok (start, es) → heard ≡ heard_by es marks → history_by lines ≡ Ok (start, heard)
-read_ok lines plain marks start es heard same told is all =
+read_plain : (lines : List (List ℕ)) (plain : List ℕ) (marks : List (Option Mark)) (start : Start) (es : List Entry) (heard : List Heard) → plain ≡ plain_text lines → marks ≡ marks_in lines → journal_of plain ≡ Ok (start, es) → heard ≡ heard_by es marks → with_marks (marks_in lines) (journal_of (plain_text lines)) ≡ Ok (start, heard)
+read_plain lines plain marks start es heard same told is all =
     ap (with_marks (marks_in lines)) (ap journal_of (sym same) ∙ is)
     ∙ ap (λ (xs : List Heard). Ok (start, xs)) (ap (λ (ms : List (Option Mark)). heard_by es ms) (sym told) ∙ sym all)
+
+pub read_ok : (rows : List Row) (lines : List (List ℕ)) (plain : List ℕ) (marks : List (Option Mark)) (start : Start) (es : List Entry) (heard wide : List Heard) → plain ≡ plain_text lines → marks ≡ marks_in lines → journal_of plain ≡ Ok (start, es) → heard ≡ heard_by es marks → wide ≡ widened rows heard → history_by rows lines ≡ Ok (start, wide)
+read_ok rows lines plain marks start es heard wide same told is all read = ap (with_table rows) (read_plain lines plain marks start es heard same told is all) ∙ ap (λ (xs : List Heard). Ok (start, xs)) (sym read)
 
 fault_with : (marks : List (Option Mark)) (given : Result (Start × List Entry) ScriptFault) (fault : RunFault) → IsFaultOf given fault → IsFaultOf (with_marks marks given) fault
 fault_with marks given (Input f) is = ap (with_marks marks) is
@@ -33,14 +38,22 @@ fault_with marks given OutOfMemory is = tt
 fault_with marks given Full is = is
 fault_with marks given (UnderWay c) is = is
 
-pub read_err : (lines : List (List ℕ)) (plain : List ℕ) (fault : RunFault) → plain ≡ plain_text lines → IsFaultOf (journal_of plain) fault → IsFaultOf (history_by lines) fault
-read_err lines plain fault same is = fault_with (marks_in lines) (journal_of (plain_text lines)) fault (subst (λ (t : List ℕ). IsFaultOf (journal_of t) fault) same is)
+fault_by : (rows : List Row) (given : Result (Start × List Heard) ScriptFault) (fault : RunFault) → IsFaultOf given fault → IsFaultOf (with_table rows given) fault
+fault_by rows given (Input f) is = ap (with_table rows) is
+fault_by rows given Read is = is
+fault_by rows given Write is = is
+fault_by rows given OutOfMemory is = tt
+fault_by rows given Full is = is
+fault_by rows given (UnderWay c) is = is
 
-pub within : (text : List ℕ) (lines : List (List ℕ)) → is_too_long text ≡ false → lines ≡ lines_of text → history_by lines ≡ history_of text
-within text lines short same = ap history_by same ∙ sym (cond-false _ _ _ short)
+pub read_err : (rows : List Row) (lines : List (List ℕ)) (plain : List ℕ) (fault : RunFault) → plain ≡ plain_text lines → IsFaultOf (journal_of plain) fault → IsFaultOf (history_by rows lines) fault
+read_err rows lines plain fault same is = fault_by rows (with_marks (marks_in lines) (journal_of (plain_text lines))) fault (fault_with (marks_in lines) (journal_of (plain_text lines)) fault (subst (λ (t : List ℕ). IsFaultOf (journal_of t) fault) same is))
 
-pub too_large : (text : List ℕ) (fault : RunFault) → IsTooLarge text fault → IsFaultOf (history_of text) fault
-too_large text fault h = ⊎_elim (λ e. rw e tt) (λ p. rw p.1 (no_history text p.0)) h
+pub within : (rows : List Row) (text : List ℕ) (lines : List (List ℕ)) → is_too_long text ≡ false → lines ≡ lines_of text → history_by rows lines ≡ history_of rows text
+within rows text lines short same = ap (history_by rows) same ∙ sym (cond-false _ _ _ short)
+
+pub too_large : (rows : List Row) (text : List ℕ) (fault : RunFault) → IsTooLarge text fault → IsFaultOf (history_of rows text) fault
+too_large rows text fault h = ⊎_elim (λ e. rw e tt) (λ p. rw p.1 (no_history rows text p.0)) h
 
 -- ---- entries, one by one
 

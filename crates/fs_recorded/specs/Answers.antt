@@ -2,13 +2,14 @@
 use Rattle.std.specs.Prelude.{ℕ, List, [], ◌∷◌, ◌++◌, codes, decimal}
 use Rattle.fs_names.specs.declared.kind.Kind.TheVariants.{Dir}
 use Rattle.fs_calls.specs.Starts.{Start}
+use Rattle.fs_calls.specs.declared.errno.Errno.{Errno}
 use Rattle.fs_calls.specs.declared.errno.Errno.TheVariants.{Enoent}
 use Rattle.fs_calls.specs.declared.reply.Reply.{Reply}
 use Rattle.fs_calls.specs.declared.reply.Reply.TheVariants.{Done, Stat, Failed}
 use Rattle.fs_timeline.specs.declared.entry.Entry.{Entry}
 use Rattle.fs_timeline.specs.declared.entry.Entry.TheVariants.{Return}
 use Rattle.fs_histories.specs.declared.heard.Pattern.{Pattern}
-use Rattle.fs_histories.specs.declared.heard.Pattern.TheVariants.{Exactly, AnyError, AnyDirectory, Except}
+use Rattle.fs_histories.specs.declared.heard.Pattern.TheVariants.{Exactly, AnyError, OneOf, AnyDirectory, Except, Anything}
 use Rattle.fs_histories.specs.declared.fault.HistoryFault.{HistoryFault}
 use Rattle.fs_histories.specs.declared.fault.HistoryFault.TheVariants.{BeginTwice, SeatBusy, ReturnUnbegun, ReturnTwice}
 use Rattle.fs_linearize.specs.declared.linearizing.Found.{Found}
@@ -41,12 +42,19 @@ found_text start (found.NoOrder place call possible held) = none_line place call
 found_text start (found.Fault place kind) = fault_line place kind
 found_text start (found.Unknown place) = unknown_line place
 
+-- the first of errors, as a reply
+abbrev pub shown_error : List Errno → Reply
+shown_error [] = Done
+shown_error (e ∷ errors) = Failed e
+
 -- a reply of which this is known; where it is left open, one that fits (no text says which a reply is not)
 abbrev pub shown : Pattern → Reply
 shown (Exactly r) = r
 shown AnyError = Failed Enoent
+shown (OneOf errors) = shown_error errors
 shown AnyDirectory = Stat Dir 0
 shown (Except replies) = Done
+shown Anything = Done
 
 -- the journal of entries from a start tree, and behind them the return that nothing explains
 abbrev pub front_text : Start → List Entry → ℕ → Pattern → List ℕ

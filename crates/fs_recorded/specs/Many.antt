@@ -13,6 +13,7 @@ use Rattle.fs_words.specs.Reading.{◌>>=◌, fault_at}
 use Rattle.fs_words.specs.declared.fault.ScriptFault.{ScriptFault}
 use Rattle.fs_words.specs.declared.fault.FaultKind.TheVariants as kind
 use Rattle.fs_text.specs.Journal.{journal_header}
+use Rattle.fs_dialects.specs.declared.dialect.Row.{Row}
 use Rattle.fs_recorded.specs.Texts.{history_by}
 use Rattle.fs_recorded.specs.Answers.{none_line, fault_line, unknown_line, outcome_of}
 use Rattle.fs_recorded.specs.declared.answer.Outcome.{Outcome}
@@ -45,13 +46,13 @@ behind before (Ok x) = Ok x
 behind before (Err f) = Err (further before f)
 
 -- what reading pieces gives, before which so many lines stand: the first fault is the answer
-abbrev pub histories_by : ℕ → List (List (List ℕ)) → Result (List (Start × List Heard)) ScriptFault
-histories_by before [] = Ok []
-histories_by before (piece ∷ pieces) = behind before (history_by piece) >>= λ h. histories_by (before + length piece) pieces >>= λ hs. Ok (h ∷ hs)
+abbrev pub histories_by : List Row → ℕ → List (List (List ℕ)) → Result (List (Start × List Heard)) ScriptFault
+histories_by rows before [] = Ok []
+histories_by rows before (piece ∷ pieces) = behind before (history_by rows piece) >>= λ h. histories_by rows (before + length piece) pieces >>= λ hs. Ok (h ∷ hs)
 
 -- what reading a text of histories gives
-abbrev pub histories_of : List ℕ → Result (List (Start × List Heard)) ScriptFault
-histories_of text = if is_too_long text then Err (fault_at 1 kind.TooLarge) else histories_by 0 (pieces_of (lines_of text))
+abbrev pub histories_of : List Row → List ℕ → Result (List (Start × List Heard)) ScriptFault
+histories_of rows text = if is_too_long text then Err (fault_at 1 kind.TooLarge) else histories_by rows 0 (pieces_of (lines_of text))
 
 -- ---- written
 

@@ -6,7 +6,7 @@ ghost use Rattle.fs_linearize.specs.Results.{IsReturnAt};
 ghost use Rattle.fs_verdict.specs.Devices.{IsFaultOf};
 ghost use Rattle.fs_recorded.specs.Texts.{history_by};
 ghost use Rattle.fs_histories.specs.declared.heard.Heard.TheVariants as heard;
-ghost use Rattle.fs_recorded.specs.Answers.{outcome_of, shown};
+ghost use Rattle.fs_recorded.specs.Answers.{outcome_of, shown_error, shown};
 ghost use Rattle.fs_recorded.specs.declared.answer.Outcome.TheVariants.{Lawful};
 ghost use Rattle.fs_recorded.specs.Findings.{IsFrontText, IsFrontLimited};
 ghost use Rattle.fs_recorded.specs.code.Fronts.{IsCutAt, IsFrontBehind, IsNoneBehind};
@@ -14,13 +14,24 @@ ghost use Rattle.fs_recorded.specs.code.Fronts.{IsCutAt, IsFrontBehind, IsNoneBe
 use crate::answer::journal_text;
 use crate::history::{History, history_by};
 use fs_calls::{Errno, Reply};
-use fs_histories::{Heard, Pattern};
+use fs_dialects::Dialect;
+use fs_histories::{Errors, Heard, Pattern};
 use fs_linearize::{Found, Progress, linearize};
 use fs_names::{CallNo, Kind};
 use fs_seq::SeqTree;
 use fs_timeline::Entry;
 use fs_verdict::RunFault;
 use std::alloc::{AllocError, Global};
+
+/// The first of errors, as a reply.
+fn shown_error(errors: &Errors) -> Reply
+    ensures { result ≡ shown_error errors.now }
+{
+    match errors.as_slice() {
+        [first, ..] => Reply::Failed(*first),
+        [] => Reply::Done,
+    }
+}
 
 /// A reply of which this is known. No text says which a reply is not.
 fn shown(pattern: Pattern) -> Reply
@@ -29,8 +40,9 @@ fn shown(pattern: Pattern) -> Reply
     match pattern {
         Pattern::Exactly(reply) => reply,
         Pattern::AnyError => Reply::Failed(Errno::Enoent),
+        Pattern::OneOf(errors) => shown_error(&errors),
         Pattern::AnyDirectory => Reply::Stat(Kind::Dir, 0),
-        Pattern::Except(_) => Reply::Done,
+        Pattern::Except(_) | Pattern::Anything => Reply::Done,
     }
 }
 
@@ -124,15 +136,16 @@ fn front_text<P: Progress>(
 pub(crate) fn front_in<P: Progress>(
     alloc: Global,
     lines: &[&[u8]],
+    dialect: &Dialect,
     place: usize,
     limit: usize,
     progress: &mut P,
 ) -> Result<Option<Vec<u8>>, RunFault>
-    ensures some { (h : _) → history_by (map (λ l. l.now) lines.now) ≡ Ok h → (call : ℕ) → HasNoOrder h.0 h.1 place → IsReturnAt h.1 place call → IfOk result (λ told. IfSome told (λ text. IsFrontText h place call text.items)) }
-    ensures none { (h : _) → history_by (map (λ l. l.now) lines.now) ≡ Ok h → (call : ℕ) → HasNoOrder h.0 h.1 place → IsReturnAt h.1 place call → IfOk result (λ told. IfNone told (IsFrontLimited h limit place)) }
-    ensures err { IfErr result (IsFaultOf (history_by (map (λ l. l.now) lines.now))) }
+    ensures some { (h : _) → history_by dialect.now (map (λ l. l.now) lines.now) ≡ Ok h → (call : ℕ) → HasNoOrder h.0 h.1 place → IsReturnAt h.1 place call → IfOk result (λ told. IfSome told (λ text. IsFrontText h place call text.items)) }
+    ensures none { (h : _) → history_by dialect.now (map (λ l. l.now) lines.now) ≡ Ok h → (call : ℕ) → HasNoOrder h.0 h.1 place → IsReturnAt h.1 place call → IfOk result (λ told. IfNone told (IsFrontLimited h limit place)) }
+    ensures err { IfErr result (IsFaultOf (history_by dialect.now (map (λ l. l.now) lines.now))) }
 {
-    let History { start, entries } = history_by(alloc, lines)?;
+    let History { start, entries } = history_by(alloc, lines, dialect)?;
     let (before, last) = cut_at(entries, place);
     match front_text(alloc, &start, before, last, limit, progress) {
         Ok(told) => Ok(told),

@@ -1,6 +1,6 @@
 //! Histories that are read from their text.
 
-ghost use Rattle.std.specs.Prelude.{◌≡◌, ◌++◌, ◌∷◌, [], map, Ok, IfOk, IfErr};
+ghost use Rattle.std.specs.Prelude.{◌≡◌, ◌++◌, ◌∷◌, [], map, option_copied, Ok, IfOk, IfErr};
 ghost use Rattle.fs_verdict.specs.Devices.{IsFaultOf};
 ghost use Rattle.fs_script.specs.Journals.{journal_of};
 ghost use Rattle.fs_recorded.specs.Texts.{known, heard_by, with_marks, marks_in, plain_text, history_by, history_of};
@@ -10,6 +10,7 @@ use crate::lines::lines_in;
 use crate::marks::{Mark, marks_in};
 use crate::plain::plain_text;
 use fs_calls::Reply;
+use fs_dialects::{Dialect, widen};
 use fs_histories::{Heard, Pattern};
 use fs_seq::SeqTree;
 use fs_timeline::Entry;
@@ -26,28 +27,31 @@ pub struct History {
 }
 
 /// What is known of a reply.
-fn known(mark: Option<Mark>, reply: Reply) -> Pattern
-    ensures { result ≡ known mark reply }
+fn known(mark: Option<&Mark>, reply: Reply) -> Result<Pattern, AllocError>
+    ensures { IfOk result (λ pattern. pattern ≡ known (option_copied mark.entry) reply) }
 {
     match mark {
-        Some(Mark::Error) => Pattern::AnyError,
-        Some(Mark::Directory) => Pattern::AnyDirectory,
-        None => Pattern::Exactly(reply),
+        Some(Mark::Error) => Ok(Pattern::AnyError),
+        Some(Mark::Errors(errors)) => Ok(Pattern::OneOf(errors.copy()?)),
+        Some(Mark::Directory) => Ok(Pattern::AnyDirectory),
+        Some(Mark::Anything) => Ok(Pattern::Anything),
+        None => Ok(Pattern::Exactly(reply)),
     }
 }
 
-/// The first of what Returns leave open, and what is behind it.
-fn cut_mark(marks: &[Option<Mark>]) -> (Option<Mark>, &[Option<Mark>])
-    ensures first { result.0 ≡ first_mark marks.now }
+/// The first of what Returns leave open, and what is after it.
+fn cut_mark(marks: &[Option<Mark>]) -> (Option<&Mark>, &[Option<Mark>])
+    ensures first { option_copied result.0 ≡ first_mark marks.now }
     ensures left { result.1.now ≡ marks_behind marks.now }
 {
     match marks {
         [] => (None, marks),
-        [mark, left @ ..] => (*mark, left),
+        [Some(mark), left @ ..] => (Some(mark), left),
+        [None, left @ ..] => (None, left),
     }
 }
 
-/// Adds an entry as it is heard, and answers what the Returns behind it leave open.
+/// Adds an entry as it is heard, and answers what the Returns after it leave open.
 fn push_heard<'a>(
     entry: Entry,
     marks: &'a [Option<Mark>],
@@ -63,7 +67,7 @@ fn push_heard<'a>(
         Entry::Commit(_) => Ok(marks),
         Entry::Return(number, reply) => {
             let (mark, left) = cut_mark(marks);
-            heard.push(Heard::Return(number, known(mark, reply)))?;
+            heard.push(Heard::Return(number, known(mark, reply)?))?;
             Ok(left)
         }
     }
@@ -85,10 +89,14 @@ fn heard_by(
     Ok(heard)
 }
 
-/// The history that lines tell.
-pub(crate) fn history_by(alloc: Global, lines: &[&[u8]]) -> Result<History, RunFault>
-    ensures ok { IfOk result (λ h. history_by (map (λ l. l.now) lines.now) ≡ Ok (h.start, h.entries.items)) }
-    ensures err { IfErr result (IsFaultOf (history_by (map (λ l. l.now) lines.now))) }
+/// The history that lines have, as it is read by a table.
+pub(crate) fn history_by(
+    alloc: Global,
+    lines: &[&[u8]],
+    dialect: &Dialect,
+) -> Result<History, RunFault>
+    ensures ok { IfOk result (λ h. history_by dialect.now (map (λ l. l.now) lines.now) ≡ Ok (h.start, h.entries.items)) }
+    ensures err { IfErr result (IsFaultOf (history_by dialect.now (map (λ l. l.now) lines.now))) }
 {
     let Ok(plain) = plain_text(alloc, lines) else {
         return Err(RunFault::OutOfMemory);
@@ -97,7 +105,10 @@ pub(crate) fn history_by(alloc: Global, lines: &[&[u8]]) -> Result<History, RunF
         return Err(RunFault::OutOfMemory);
     };
     let journal = journal_in(alloc, &plain)?;
-    let Ok(entries) = heard_by(alloc, journal.entries, &marks) else {
+    let Ok(heard) = heard_by(alloc, journal.entries, &marks) else {
+        return Err(RunFault::OutOfMemory);
+    };
+    let Ok(entries) = widen(alloc, dialect, heard) else {
         return Err(RunFault::OutOfMemory);
     };
     Ok(History {
@@ -106,11 +117,11 @@ pub(crate) fn history_by(alloc: Global, lines: &[&[u8]]) -> Result<History, RunF
     })
 }
 
-/// The history that a text has.
-pub fn read_history(alloc: Global, text: &[u8]) -> Result<History, RunFault>
-    ensures ok { IfOk result (λ h. history_of text.now ≡ Ok (h.start, h.entries.items)) }
-    ensures err { IfErr result (IsFaultOf (history_of text.now)) }
+/// The history that a text has, as it is read by a table.
+pub fn read_history(alloc: Global, text: &[u8], dialect: &Dialect) -> Result<History, RunFault>
+    ensures ok { IfOk result (λ h. history_of dialect.now text.now ≡ Ok (h.start, h.entries.items)) }
+    ensures err { IfErr result (IsFaultOf (history_of dialect.now text.now)) }
 {
     let lines = lines_in(alloc, text)?;
-    history_by(alloc, &lines)
+    history_by(alloc, &lines, dialect)
 }

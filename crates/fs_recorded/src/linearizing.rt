@@ -17,6 +17,7 @@ use crate::answer::{Linearized, answer_of, found_text};
 use crate::front::front_in;
 use crate::history::{History, history_by};
 use crate::lines::lines_in;
+use fs_dialects::Dialect;
 use fs_io::{Made, Sink, Source, transform};
 use fs_linearize::{Found, Progress, Untold, linearize};
 use fs_verdict::{RunFault, between};
@@ -50,15 +51,16 @@ fn find<P: Progress>(
 fn front_or<P: Progress>(
     alloc: Global,
     lines: &[&[u8]],
+    dialect: &Dialect,
     place: usize,
     plain: Vec<u8>,
     limit: usize,
     progress: &mut P,
 ) -> Result<Vec<u8>, RunFault>
-    ensures ok { (h : _) → history_by (map (λ l. l.now) lines.now) ≡ Ok h → (call : ℕ) → HasNoOrder h.0 h.1 place → IsReturnAt h.1 place call → IfOk result (λ told. IsFrontOr h limit place call plain.items told.items) }
-    ensures err { IfErr result (IsFaultOf (history_by (map (λ l. l.now) lines.now))) }
+    ensures ok { (h : _) → history_by dialect.now (map (λ l. l.now) lines.now) ≡ Ok h → (call : ℕ) → HasNoOrder h.0 h.1 place → IsReturnAt h.1 place call → IfOk result (λ told. IsFrontOr h limit place call plain.items told.items) }
+    ensures err { IfErr result (IsFaultOf (history_by dialect.now (map (λ l. l.now) lines.now))) }
 {
-    match front_in(alloc, lines, place, limit, progress)? {
+    match front_in(alloc, lines, dialect, place, limit, progress)? {
         Some(told) => Ok(told),
         None => Ok(plain),
     }
@@ -69,20 +71,21 @@ fn front_or<P: Progress>(
 fn told_of<P: Progress>(
     alloc: Global,
     lines: &[&[u8]],
+    dialect: &Dialect,
     found: &Found,
     plain: Vec<u8>,
     limit: usize,
     front: bool,
     progress: &mut P,
 ) -> Result<Vec<u8>, RunFault>
-    ensures ok { (h : _) → history_by (map (λ l. l.now) lines.now) ≡ Ok h → IsFoundOf h limit false found.now plain.items → IfOk result (λ told. IsFoundOf h limit front found.now told.items) }
-    ensures err { IfErr result (IsFaultOf (history_by (map (λ l. l.now) lines.now))) }
+    ensures ok { (h : _) → history_by dialect.now (map (λ l. l.now) lines.now) ≡ Ok h → IsFoundOf h limit false found.now plain.items → IfOk result (λ told. IsFoundOf h limit front found.now told.items) }
+    ensures err { IfErr result (IsFaultOf (history_by dialect.now (map (λ l. l.now) lines.now))) }
 {
     let Found::NoOrder { place, .. } = found else {
         return Ok(plain);
     };
     if front {
-        return front_or(alloc, lines, *place, plain, limit, progress);
+        return front_or(alloc, lines, dialect, *place, plain, limit, progress);
     }
     Ok(plain)
 }
@@ -91,15 +94,16 @@ fn told_of<P: Progress>(
 fn linearize_lines<P: Progress>(
     alloc: Global,
     lines: &[&[u8]],
+    dialect: &Dialect,
     limit: usize,
     front: bool,
     progress: &mut P,
 ) -> Result<Made<Linearized>, RunFault>
-    ensures { MakesFound (history_by (map (λ l. l.now) lines.now)) limit front result }
+    ensures { MakesFound (history_by dialect.now (map (λ l. l.now) lines.now)) limit front result }
 {
-    let history = history_by(alloc, lines)?;
+    let history = history_by(alloc, lines, dialect)?;
     let (found, plain) = find(alloc, history, limit, progress)?;
-    let text = told_of(alloc, lines, &found, plain, limit, front, progress)?;
+    let text = told_of(alloc, lines, dialect, &found, plain, limit, front, progress)?;
     let Ok(end) = answer_of(alloc, lines, &found) else {
         return Err(RunFault::OutOfMemory);
     };
@@ -110,28 +114,30 @@ fn linearize_lines<P: Progress>(
 fn linearize_text<P: Progress>(
     alloc: Global,
     text: &[u8],
+    dialect: &Dialect,
     limit: usize,
     front: bool,
     progress: &mut P,
 ) -> Result<Made<Linearized>, RunFault>
-    ensures { MakesFound (history_of text.now) limit front result }
+    ensures { MakesFound (history_of dialect.now text.now) limit front result }
 {
     let lines = lines_in(alloc, text)?;
-    linearize_lines(alloc, &lines, limit, front, progress)
+    linearize_lines(alloc, &lines, dialect, limit, front, progress)
 }
 
 /// What is found of a history in memory, as `linearize_history` writes it, and what that answers. The history is read where it stands.
 pub fn linearize_bytes(
     alloc: Global,
     history: &[u8],
+    dialect: &Dialect,
     limit: usize,
     front: bool,
 ) -> Result<Made<Linearized>, RunFault>
-    ensures found { IfOk result (λ made. (h : _) × (f : Found) × (history_of history.now ≡ Ok h) × IsFoundOf h limit front f made.text.items × (made.end.outcome ≡ outcome_of f)) }
+    ensures found { IfOk result (λ made. (h : _) × (f : Found) × (history_of dialect.now history.now ≡ Ok h) × IsFoundOf h limit front f made.text.items × (made.end.outcome ≡ outcome_of f)) }
     ensures quiet { IfOk result (λ made. made.end.outcome ≡ outcome.Lawful → made.end.reason.items ≡ []) }
-    ensures fault { IfErr result (IsFaultOf (history_of history.now)) }
+    ensures fault { IfErr result (IsFaultOf (history_of dialect.now history.now)) }
 {
-    linearize_text(alloc, history, limit, front, &mut Untold)
+    linearize_text(alloc, history, dialect, limit, front, &mut Untold)
 }
 
 /// Reads a history to its end and writes what is found of it, where no more configurations than the limit, or few more, are
@@ -144,6 +150,7 @@ pub fn linearize_history<R: Source, W: Sink, P: Progress>(
     alloc: Global,
     reader: &mut R,
     writer: &mut W,
+    dialect: &Dialect,
     limit: usize,
     front: bool,
     progress: &mut P,
@@ -152,10 +159,10 @@ pub fn linearize_history<R: Source, W: Sink, P: Progress>(
     requires writes { W.failures writer.old < 2 ^ 64 - 1 }
 
     // What is answered and written is what is found of the history that was read.
-    ensures found { IfOk result (λ told. IfSome (R.remaining reader.old) (λ input. (h : _) × (f : Found) × (text : List ℕ) × (history_of input ≡ Ok h) × IsFoundOf h limit front f text × (told.outcome ≡ outcome_of f) × Appends (W.contents writer.old) (W.contents writer.new) text)) }
+    ensures found { IfOk result (λ told. IfSome (R.remaining reader.old) (λ input. (h : _) × (f : Found) × (text : List ℕ) × (history_of dialect.now input ≡ Ok h) × IsFoundOf h limit front f text × (told.outcome ≡ outcome_of f) × Appends (W.contents writer.old) (W.contents writer.new) text)) }
     ensures quiet { IfOk result (λ told. told.outcome ≡ outcome.Lawful → told.reason.items ≡ []) }
     ensures end { OnOk result (IsAtEnd (R.remaining reader.new)) }
-    ensures input { (f : ScriptFault) → result ≡ Err (RunFault.Input f) → IfSome (R.remaining reader.old) (λ input. history_of input ≡ Err f) }
+    ensures input { (f : ScriptFault) → result ≡ Err (RunFault.Input f) → IfSome (R.remaining reader.old) (λ input. history_of dialect.now input ≡ Err f) }
 
     ensures full { result ≢ Err RunFault.Full }
     ensures under_way { (call : ℕ) → result ≢ Err (RunFault.UnderWay call) }
@@ -163,15 +170,15 @@ pub fn linearize_history<R: Source, W: Sink, P: Progress>(
     // A device is blamed only where it failed in this call; after a failed write a beginning of the text stands, and after every
     // other error nothing was written.
     ensures devices { KeepsDevices R.failures W.failures reader.old reader.new writer.old writer.new RunFault.Read RunFault.Write result }
-    ensures beginning { IsErrOf result RunFault.Write → IfSome (R.remaining reader.old) (λ input. IsWrittenOf (history_of input) limit front (W.contents writer.old) (W.contents writer.new)) }
+    ensures beginning { IsErrOf result RunFault.Write → IfSome (R.remaining reader.old) (λ input. IsWrittenOf (history_of dialect.now input) limit front (W.contents writer.old) (W.contents writer.new)) }
 {
     let ended = transform(
         alloc,
         reader,
         writer,
         |text| -> Result<Made<Linearized>, RunFault>
-            ensures { MakesFound (history_of text.items) limit front result }
-        { linearize_text(alloc, text.as_slice(), limit, front, progress) },
+            ensures { MakesFound (history_of dialect.entry.now text.items) limit front result }
+        { linearize_text(alloc, text.as_slice(), dialect, limit, front, progress) },
     );
     match ended {
         Ok(told) => Ok(told),

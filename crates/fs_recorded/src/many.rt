@@ -10,8 +10,10 @@ ghost use Rattle.fs_recorded.specs.Answers.{outcome_of};
 ghost use Rattle.fs_recorded.specs.code.Each.{lines_before, IsFurther, IsFoundIn, IsPieceCut, AddsPiece, AreTold, IsManyOf, MakesMany, AreWrittenOf};
 
 use crate::answer::{Outcome, found_line, outcome_of};
+use crate::failing::Notes;
 use crate::history::{History, history_by};
 use crate::lines::lines_in;
+use fs_dialects::Dialect;
 use fs_io::{Made, Sink, Source, transform};
 use fs_linearize::{Found, Progress, Untold, linearize};
 use fs_text::Addition;
@@ -25,6 +27,8 @@ use std::alloc::{AllocError, Global};
 #[derive(Drop)]
 pub struct Histories {
     pub outcomes: Vec<Outcome>,
+    /// Those that no journal explains, or that are none.
+    pub notes: Notes,
 }
 
 /// What came of histories so far, and their lines.
@@ -77,11 +81,17 @@ fn further(fault: RunFault, before: usize) -> RunFault
 
 /// What is found of the history that lines tell, before which so many stand.
 #[tactic(auto, using(crate::proofs::ManyLemmas::further_fault, crate::proofs::ManyLemmas::found_in))]
-fn find(alloc: Global, lines: &[&[u8]], before: usize, limit: usize) -> Result<Found, RunFault>
-    ensures ok { IfOk result (IsFoundIn (behind before (history_by (map (λ l. l.now) lines.now))) limit) }
-    ensures err { IfErr result (IsFaultOf (behind before (history_by (map (λ l. l.now) lines.now)))) }
+fn find(
+    alloc: Global,
+    lines: &[&[u8]],
+    dialect: &Dialect,
+    before: usize,
+    limit: usize,
+) -> Result<Found, RunFault>
+    ensures ok { IfOk result (IsFoundIn (behind before (history_by dialect.now (map (λ l. l.now) lines.now))) limit) }
+    ensures err { IfErr result (IsFaultOf (behind before (history_by dialect.now (map (λ l. l.now) lines.now)))) }
 {
-    let History { start, entries } = match history_by(alloc, lines) {
+    let History { start, entries } = match history_by(alloc, lines, dialect) {
         Ok(history) => history,
         Err(fault) => return Err(further(fault, before)),
     };
@@ -106,15 +116,21 @@ fn push_found(alloc: Global, found: &Found, told: &mut Told) -> Result<(), Alloc
 fn push_piece(
     alloc: Global,
     piece: &[&[u8]],
+    dialect: &Dialect,
     before: usize,
     limit: usize,
     told: &mut Told,
+    notes: &mut Notes,
 ) -> Result<(), RunFault>
-    ensures ok { OnOk result (AddsPiece (behind before (history_by (map (λ l. l.now) piece.now))) limit told.old.outcomes.items told.new.outcomes.items told.old.text.items told.new.text.items) }
-    ensures err { IfErr result (IsFaultOf (behind before (history_by (map (λ l. l.now) piece.now)))) }
+    ensures ok { OnOk result (AddsPiece (behind before (history_by dialect.now (map (λ l. l.now) piece.now))) limit told.old.outcomes.items told.new.outcomes.items told.old.text.items told.new.text.items) }
+    ensures err { IfErr result (IsFaultOf (behind before (history_by dialect.now (map (λ l. l.now) piece.now)))) }
 {
-    let found = find(alloc, piece, before, limit)?;
-    match push_found(alloc, &found, told) {
+    let found = find(alloc, piece, dialect, before, limit)?;
+    if push_found(alloc, &found, told).is_err() {
+        return Err(RunFault::OutOfMemory);
+    }
+    let number = told.outcomes.len();
+    match notes.take_in(alloc, piece, before, number, &found) {
         Ok(()) => Ok(()),
         Err(_) => Err(RunFault::OutOfMemory),
     }
@@ -136,11 +152,13 @@ fn piece_length(lines: &[&[u8]]) -> usize
 fn find_each<P: Progress>(
     alloc: Global,
     lines: &[&[u8]],
+    dialect: &Dialect,
     limit: usize,
+    notes: &mut Notes,
     progress: &mut P,
 ) -> Result<Told, RunFault>
-    ensures ok { IfOk result (λ told. AreTold (histories_by 0 (pieces_of (map (λ l. l.now) lines.now))) limit told.outcomes.items told.text.items) }
-    ensures err { IfErr result (IsFaultOf (histories_by 0 (pieces_of (map (λ l. l.now) lines.now)))) }
+    ensures ok { IfOk result (λ told. AreTold (histories_by dialect.now 0 (pieces_of (map (λ l. l.now) lines.now))) limit told.outcomes.items told.text.items) }
+    ensures err { IfErr result (IsFaultOf (histories_by dialect.now 0 (pieces_of (map (λ l. l.now) lines.now)))) }
 {
     let mut told = Told {
         outcomes: Vec::new(alloc),
@@ -150,7 +168,7 @@ fn find_each<P: Progress>(
     'pieces: while at < lines.len() {
         let left = &lines[at..];
         let count = piece_length(left);
-        push_piece(alloc, &left[..count], at, limit, &mut told)?;
+        push_piece(alloc, &left[..count], dialect, at, limit, &mut told, notes)?;
         at += count;
         progress.read(at, lines.len());
     }
@@ -199,16 +217,22 @@ fn with_counts(text: Vec<u8>, outcomes: &[Outcome]) -> Result<Vec<u8>, AllocErro
 fn linearize_lines<P: Progress>(
     alloc: Global,
     lines: &[&[u8]],
+    dialect: &Dialect,
     limit: usize,
+    failing: bool,
     progress: &mut P,
 ) -> Result<Made<Histories>, RunFault>
-    ensures { MakesMany (histories_by 0 (pieces_of (map (λ l. l.now) lines.now))) limit result }
+    ensures { MakesMany (histories_by dialect.now 0 (pieces_of (map (λ l. l.now) lines.now))) limit result }
 {
-    let Told { outcomes, text } = find_each(alloc, lines, limit, progress)?;
+    let mut notes = Notes::new(alloc, failing);
+    let Told { outcomes, text } = find_each(alloc, lines, dialect, limit, &mut notes, progress)?;
+    if notes.end(alloc).is_err() {
+        return Err(RunFault::OutOfMemory);
+    }
     match with_counts(text, &outcomes) {
         Ok(text) => Ok(Made {
             text,
-            end: Histories { outcomes },
+            end: Histories { outcomes, notes },
         }),
         Err(_) => Err(RunFault::OutOfMemory),
     }
@@ -218,13 +242,15 @@ fn linearize_lines<P: Progress>(
 fn linearize_text<P: Progress>(
     alloc: Global,
     text: &[u8],
+    dialect: &Dialect,
     limit: usize,
+    failing: bool,
     progress: &mut P,
 ) -> Result<Made<Histories>, RunFault>
-    ensures { MakesMany (histories_of text.now) limit result }
+    ensures { MakesMany (histories_of dialect.now text.now) limit result }
 {
     let lines = lines_in(alloc, text)?;
-    linearize_lines(alloc, &lines, limit, progress)
+    linearize_lines(alloc, &lines, dialect, limit, failing, progress)
 }
 
 /// Reads histories to their end, each begun by its header line, and writes what is found of them: of each in one line `lawful`
@@ -234,16 +260,18 @@ pub fn linearize_many<R: Source, W: Sink, P: Progress>(
     alloc: Global,
     reader: &mut R,
     writer: &mut W,
+    dialect: &Dialect,
     limit: usize,
+    failing: bool,
     progress: &mut P,
 ) -> Result<Histories, RunFault>
     requires reads { R.failures reader.old < 2 ^ 64 - 1 }
     requires writes { W.failures writer.old < 2 ^ 64 - 1 }
 
     // What is answered and written is what is found of each history that was read.
-    ensures found { IfOk result (λ told. IfSome (R.remaining reader.old) (λ input. (text : List ℕ) × IsManyOf (histories_of input) limit told text × Appends (W.contents writer.old) (W.contents writer.new) text)) }
+    ensures found { IfOk result (λ told. IfSome (R.remaining reader.old) (λ input. (text : List ℕ) × IsManyOf (histories_of dialect.now input) limit told text × Appends (W.contents writer.old) (W.contents writer.new) text)) }
     ensures end { OnOk result (IsAtEnd (R.remaining reader.new)) }
-    ensures input { (f : ScriptFault) → result ≡ Err (RunFault.Input f) → IfSome (R.remaining reader.old) (λ input. histories_of input ≡ Err f) }
+    ensures input { (f : ScriptFault) → result ≡ Err (RunFault.Input f) → IfSome (R.remaining reader.old) (λ input. histories_of dialect.now input ≡ Err f) }
 
     ensures full { result ≢ Err RunFault.Full }
     ensures under_way { (call : ℕ) → result ≢ Err (RunFault.UnderWay call) }
@@ -251,15 +279,15 @@ pub fn linearize_many<R: Source, W: Sink, P: Progress>(
     // A device is blamed only where it failed in this call; after a failed write a beginning of the text stands, and after every
     // other error nothing was written.
     ensures devices { KeepsDevices R.failures W.failures reader.old reader.new writer.old writer.new RunFault.Read RunFault.Write result }
-    ensures beginning { IsErrOf result RunFault.Write → IfSome (R.remaining reader.old) (λ input. AreWrittenOf (histories_of input) limit (W.contents writer.old) (W.contents writer.new)) }
+    ensures beginning { IsErrOf result RunFault.Write → IfSome (R.remaining reader.old) (λ input. AreWrittenOf (histories_of dialect.now input) limit (W.contents writer.old) (W.contents writer.new)) }
 {
     let ended = transform(
         alloc,
         reader,
         writer,
         |text| -> Result<Made<Histories>, RunFault>
-            ensures { MakesMany (histories_of text.items) limit result }
-        { linearize_text(alloc, text.as_slice(), limit, progress) },
+            ensures { MakesMany (histories_of dialect.entry.now text.items) limit result }
+        { linearize_text(alloc, text.as_slice(), dialect, limit, failing, progress) },
     );
     match ended {
         Ok(told) => Ok(told),

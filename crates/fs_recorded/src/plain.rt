@@ -10,13 +10,18 @@ use fs_words::lines::cut_words;
 use std::alloc::{AllocError, Global};
 
 /// Appends the line of a journal for one of a history, by its words.
-fn push_by(line: &[u8], words: &[&[u8]], text: &mut Vec<u8>) -> Result<(), AllocError>
+fn push_by(
+    alloc: Global,
+    line: &[u8],
+    words: &[&[u8]],
+    text: &mut Vec<u8>,
+) -> Result<(), AllocError>
     ensures { OnOk result (text.new.items ≡ text.old.items ++ plain_by (map (λ w. w.now) words.now) line.now) }
 {
     if first_is(b"commit", words) {
         return text.extend_from_slice(b"commit");
     }
-    if mark_in(words).is_none() {
+    if mark_in(alloc, words)?.is_none() {
         return text.extend_from_slice(line);
     }
     text.extend_from_slice(b"return ")?;
@@ -26,6 +31,7 @@ fn push_by(line: &[u8], words: &[&[u8]], text: &mut Vec<u8>) -> Result<(), Alloc
 
 /// The same, where its words are not cut yet. `words` lends its memory.
 fn push_plain<'a>(
+    alloc: Global,
     line: &'a [u8],
     words: &mut Vec<&'a [u8]>,
     text: &mut Vec<u8>,
@@ -33,7 +39,7 @@ fn push_plain<'a>(
     ensures { OnOk result (text.new.items ≡ text.old.items ++ plain_in (words_of line.now) line.now) }
 {
     match cut_words(line, words) {
-        Ok(()) => push_by(line, words, text),
+        Ok(()) => push_by(alloc, line, words, text),
         Err(FaultKind::OutOfMemory) => Err(AllocError),
         Err(_) => text.extend_from_slice(line),
     }
@@ -47,7 +53,7 @@ pub(crate) fn plain_text(alloc: Global, lines: &[&[u8]]) -> Result<Vec<u8>, Allo
     let mut plain = Vec::new(alloc);
     let mut words = Vec::new(alloc);
     for line in lines {
-        push_plain(line, &mut words, &mut plain)?;
+        push_plain(alloc, line, &mut words, &mut plain)?;
         plain.push(b'\n')?;
     }
     Ok(plain)

@@ -102,16 +102,18 @@ fn push_call(
     told.push(seat)
 }
 
-/// Adds what the entry of this place says, counted from 1, with the number of its line, and which call it is.
-fn push_entry(
+/// Adds what the entry of this place says, counted from 1, with the number of its line, before which so many others are, and which
+/// call it is.
+pub(crate) fn push_entry(
     alloc: Global,
     lines: &[&[u8]],
     place: usize,
+    before: usize,
     told: &mut Addition,
 ) -> Result<(), AllocError> {
     let mut words = Vec::new(alloc);
     let (number, line) = take_entry(lines, place, &mut words)?;
-    told.push_with_number(b"line ", number)?;
+    told.push_with_number(b"line ", number.saturating_add(before as u64))?;
     told.push(b": ")?;
     push_cut(line, told)?;
     let call = second(&words);
@@ -126,7 +128,7 @@ pub(crate) fn reason_of(
     place: usize,
 ) -> Result<Vec<u8>, AllocError> {
     let mut told = Addition::new(Vec::new(alloc));
-    push_entry(alloc, lines, place, &mut told)?;
+    push_entry(alloc, lines, place, 0, &mut told)?;
     Ok(told.kept())
 }
 
@@ -142,7 +144,7 @@ pub(crate) fn with_held(
     let mut told = Addition::new(reason);
     if held < place {
         told.push(b"\nwith the replies of later lines nothing explains ")?;
-        push_entry(alloc, lines, held, &mut told)?;
+        push_entry(alloc, lines, held, 0, &mut told)?;
     }
     Ok(told.kept())
 }

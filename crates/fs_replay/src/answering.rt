@@ -1,4 +1,4 @@
-//! What is answered to a question on what an input tells.
+//! What is answered to a question about an input.
 
 ghost use Rattle.std.specs.Prelude.{◌≡◌, ◌≤◌, ◌-◌, true, length, take, slice_get, IfOk, IfErr};
 ghost use Rattle.fs_calls.specs.Outcomes.{play};
@@ -41,7 +41,7 @@ fn tree_behind(alloc: Global, start: SeqTree, calls: &[&Call]) -> Result<Vec<u8>
     tree_text(alloc, &tree)
 }
 
-/// The answer that is the tree behind these calls.
+/// The answer that is the tree after these calls.
 fn answer_behind(alloc: Global, start: SeqTree, calls: &[&Call]) -> Result<Made<bool>, ReplayFault>
     ensures answer { IfOk result (λ made. (made.end ≡ true) × (made.text.items ≡ tree_text (play start (calls_in calls.now)))) }
     ensures fault { IfErr result (λ f. f ≡ memory) }
@@ -52,7 +52,7 @@ fn answer_behind(alloc: Global, start: SeqTree, calls: &[&Call]) -> Result<Made<
     }
 }
 
-/// The answer that is the tree behind so many of these calls.
+/// The answer that is the tree after so many of these calls.
 fn answer_at(
     alloc: Global,
     start: SeqTree,
@@ -89,7 +89,7 @@ fn number_at(
     }
 }
 
-/// How many commits stand before that of a call.
+/// How many commits come before that of a call.
 fn place_in(alloc: Global, entries: &[Entry], number: CallNo) -> Result<usize, ReplayFault>
     ensures few { IfOk result (λ place. place ≤ length (commits entries.now)) }
     ensures place { IfOk result (CommitsBehind entries.now number) }
@@ -104,7 +104,7 @@ fn place_in(alloc: Global, entries: &[Entry], number: CallNo) -> Result<usize, R
     }
 }
 
-/// How many commits stand before that of a thread's call.
+/// How many commits come before that of a thread's call.
 fn place_before(
     alloc: Global,
     names: &Option<ThreadNames>,
@@ -199,7 +199,7 @@ fn commit_line(
     line_at(alloc, names, entries, &numbers, calls, place)
 }
 
-/// The answer who last changed what stands at a path.
+/// The answer who last changed what is at a path.
 fn answer_who(
     alloc: Global,
     names: &Option<ThreadNames>,
@@ -251,7 +251,7 @@ fn answer_of(
     }
 }
 
-/// The answer to a question on what is told.
+/// The answer to a question about what an input says.
 pub(crate) fn answer_to(
     alloc: Global,
     told: Told,

@@ -13,30 +13,30 @@ use std::alloc::Global;
 /// What is asked, in the words of a command line.
 #[derive(Clone, Copy, Debug, PartialEq, Eq)]
 pub enum Asked<'a> {
-    /// The tree behind all commits.
+    /// The tree after all commits.
     Whole,
-    /// The tree behind so many commits.
+    /// The tree after so many commits.
     At(u64),
     /// The tree before the commit of a call: `THREAD#NUMBER`.
     Before(&'a str),
-    /// Who last changed what stands at a path.
+    /// Who last changed what is at a path.
     Who(&'a str),
 }
 
 /// What is asked of an input's trees.
 #[derive(Drop)]
 pub enum Question {
-    /// The tree behind all commits.
+    /// The tree after all commits.
     Whole,
-    /// The tree behind so many commits.
+    /// The tree after so many commits.
     At(u64),
     /// The tree before the commit of a call: its thread, and its place among the calls of that, counted from 1.
     Before(Vec<u8>, u64),
-    /// Who last changed what stands at a path.
+    /// Who last changed what is at a path.
     Who(Path),
 }
 
-/// Whether a byte stands between a thread and the place of its call.
+/// Whether a byte is the mark between a thread and the place of its call.
 fn mark_in(word: &[u8]) -> Option<usize>
     ensures { result ≡ position is_mark word.now }
 {
@@ -95,7 +95,7 @@ fn who(alloc: Global, word: &[u8]) -> Result<Question, ReplayFault>
     }
 }
 
-/// What is asked, by the words of a command line. `BadCall` and `BadPath` tell of a word that is no CALL and no PATH.
+/// What is asked, by the words of a command line. `BadCall` and `BadPath` mean that a word is no CALL or no PATH.
 pub fn read_question(alloc: Global, asked: Asked<'_>) -> Result<Question, ReplayFault>
     ensures asked { IfOk result (IsQuestionOf asked.entry) }
     ensures fault { IfErr result (IsWordFault asked.entry) }

@@ -1,4 +1,4 @@
-//! What stands at a path, and which commit last changed that.
+//! What is at a path, and which commit last changed that.
 
 ghost use Rattle.std.specs.Prelude.{◌≡◌, ◌↔◌, ℕ, List, IfOk, IsTrue, length, if◌then◌else◌};
 ghost use Rattle.fs_calls.specs.Outcomes.{reply_at};
@@ -12,7 +12,7 @@ use fs_names::{Kind, Path};
 use fs_seq::SeqTree;
 use std::alloc::{AllocError, Global};
 
-/// What stands at a path.
+/// What is at a path.
 #[derive(Drop)]
 enum Sight {
     Nothing,
@@ -76,7 +76,7 @@ fn bytes_in(alloc: Global, reply: Reply) -> Bytes
     }
 }
 
-/// The kind and the size of what stands at a path.
+/// The kind and the size of what is at a path.
 fn kind_at(alloc: Global, tree: &SeqTree, path: &Path) -> Result<Option<(Kind, u64)>, AllocError>
     requires { IsTree tree.now.tree }
     ensures { IfOk result (StandsAt tree.now.tree path.now) }
@@ -85,7 +85,7 @@ fn kind_at(alloc: Global, tree: &SeqTree, path: &Path) -> Result<Option<(Kind, u
     Ok(kind_in(&reply))
 }
 
-/// The bytes of a file of this size that stands at a path, as many at a time as a read answers.
+/// The bytes of a file of this size at a path, as many at a time as a read answers.
 fn bytes_at(alloc: Global, tree: &SeqTree, path: &Path, size: u64) -> Result<Bytes, AllocError>
     requires { IsTree tree.now.tree }
     ensures { (bytes : List ℕ) → look tree.now.tree path.now ≡ Some (File bytes) → length bytes ≡ size → IfOk result (λ copy. copy ≡ bytes) }
@@ -102,7 +102,7 @@ fn bytes_at(alloc: Global, tree: &SeqTree, path: &Path, size: u64) -> Result<Byt
     Ok(Bytes::new(bytes))
 }
 
-/// What stands at a path.
+/// What is at a path.
 fn sight_at(alloc: Global, tree: &SeqTree, path: &Path) -> Result<Sight, AllocError>
     requires { IsTree tree.now.tree }
     ensures { IfOk result (λ sight. node_in sight ≡ look tree.now.tree path.now) }
@@ -121,7 +121,7 @@ fn latest(same: bool, place: usize, last: Option<usize>) -> Option<usize>
     if same { last } else { Some(place) }
 }
 
-/// Of calls the last one that changes what stands at a path, counted from 1.
+/// The last of the calls that changes what is at a path, counted from 1.
 pub(crate) fn last_change(
     alloc: Global,
     start: SeqTree,

@@ -131,7 +131,7 @@ pub(crate) fn played(alloc: Global, start: SeqTree, calls: &[&Call]) -> Result<S
     Ok(tree)
 }
 
-/// How many numbers stand before the first that is this one.
+/// How many numbers come before the first that is this one.
 pub(crate) fn place_of(numbers: &[CallNo], number: CallNo) -> Option<usize>
     ensures { IsPlace numbers.now number result }
 {

@@ -20,7 +20,7 @@ pub enum ReplayFault {
     #[error("there is no such call, or it does not commit")]
     NoCall,
     /// The word is no CALL.
-    #[error("CALL is THREAD#NUMBER: m#3 is the third call of thread m, and of a journal 0#3 the third on seat 0")]
+    #[error("CALL is THREAD#NUMBER: m#3 is the third call of thread m, and with a journal 0#3 is the third on seat 0")]
     BadCall,
     /// The word is no PATH.
     #[error("{0}")]

@@ -1,4 +1,4 @@
-//! The runner that writes a tree of a run, or who last changed what stands at a path.
+//! The runner that writes a tree of a run, or who last changed what is at a path.
 
 ghost use Rattle.std.specs.Prelude.{◌≡◌, ◌≢◌, ◌&&◌, ◌+◌, ◌-◌, ◌<◌, ◌^◌, [], ℕ, Bool, List, true, Ok, Err, IfOk, OnOk, OnErr, IfErr, IfSome, IsErrOf};
 ghost use Rattle.std.specs.Io.KnownBytes.{Appends, IsAtEnd};
@@ -91,10 +91,11 @@ fn replay_text(
     }
 }
 
-/// Reads a journal, or a script that is run by a schedule, to its end, and writes the answer to a question: the text of a tree
-/// that the first commits make, or the line of the commit that last changed what stands at a path. Of a run in pieces the last
-/// one is asked about, and of a journal that is not lawful the entries before its fault. The text is made before its first byte
-/// is written. The answer is whether what was asked for was found and all is lawful, and the journal's fault in words.
+/// Reads a journal, or a script that it runs with a schedule, to its end, and writes the answer to a question. That is
+/// the text of the tree that the first commits make, or the line of the commit that last changed what is at a path. If
+/// a run is in pieces, the question is about the last one. If a journal is not lawful, it is about the entries before
+/// its fault. The text is made before its first byte is written. The answer is whether what was asked for was found and
+/// all is lawful, and the journal's fault in words.
 pub fn replay_input<R: Source, W: Sink>(
     alloc: Global,
     reader: &mut R,

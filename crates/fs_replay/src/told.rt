@@ -1,4 +1,4 @@
-//! The entries that an input tells, and the tree at which they begin.
+//! The entries of an input, and the tree at which they begin.
 
 ghost use Rattle.std.specs.Prelude.{◌≡◌, [], Ok, IfOk, IfErr, get_or};
 ghost use Rattle.fs_calls.specs.Tree.{IsTree};
@@ -19,7 +19,7 @@ use fs_words::Addition;
 use fs_words::words::number_of;
 use std::alloc::{AllocError, Global};
 
-/// What an input tells.
+/// What an input says.
 #[derive(Drop)]
 pub(crate) struct Told {
     /// The names of the threads of a script; those of a journal are the numbers of its seats.
@@ -58,7 +58,7 @@ fn journal_in(alloc: Global, text: &[u8]) -> Result<Journal, RunFault>
     }
 }
 
-/// What a journal tells.
+/// What a journal says.
 fn told_by_journal(alloc: Global, text: &[u8]) -> Result<Told, RunFault>
     ensures told { IfOk result (λ told. IsToldByJournal text.now (value_of told)) }
     ensures tree { IfOk result (λ told. IsTree told.start.tree) }
@@ -76,7 +76,7 @@ fn told_by_journal(alloc: Global, text: &[u8]) -> Result<Told, RunFault>
     })
 }
 
-/// What a script's run tells: of one in pieces the last one.
+/// What a script's run says; if it is in pieces, the last one.
 fn told_by_script(alloc: Global, text: &[u8], schedule: Schedule) -> Result<Told, RunFault>
     ensures told { IfOk result (λ told. IsToldByScript schedule text.now (value_of told)) }
     ensures tree { IfOk result (λ told. IsTree told.start.tree) }
@@ -102,7 +102,7 @@ fn is_journal(text: &[u8]) -> bool
     text.starts_with(b"atomfs-journal")
 }
 
-/// What an input tells: as a journal, where it has the first bytes of one, and else as a script.
+/// What an input says: as a journal, if it has the first bytes of one, and else as a script.
 pub(crate) fn told_by(alloc: Global, text: &[u8], schedule: Schedule) -> Result<Told, RunFault>
     ensures told { IfOk result (λ told. IsToldBy (is_journal text.now) schedule text.now (value_of told)) }
     ensures tree { IfOk result (λ told. IsTree told.start.tree) }

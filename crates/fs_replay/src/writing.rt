@@ -13,7 +13,7 @@ use fs_seq::{Row, SeqTree};
 use fs_text::{Addition, write_call};
 use std::alloc::{AllocError, Global};
 
-/// Some names, each behind a slash.
+/// Some names, each after a slash.
 fn push_names(alloc: Global, names: &[Name], text: &mut Addition) -> Result<(), AllocError>
     ensures ok { OnOk result (text.new.added ≡ text.old.added ++ flat_map (λ n. 47 ∷ escaped n) names.now) }
     ensures before { text.new.before ≡ text.old.before }
@@ -102,7 +102,7 @@ pub(crate) fn who_line(
     Ok(text)
 }
 
-/// The line where no commit changed what stands at a path.
+/// The line for the case that no commit changed what is at a path.
 pub(crate) fn nobody_line(alloc: Global) -> Result<Vec<u8>, AllocError>
     ensures { IfOk result (λ line. line.items ≡ nobody_line) }
 {

@@ -62,7 +62,7 @@ fn reached(nodes: &Slab<Node>, names: &[Name]) -> Option<usize>
     Some(at)
 }
 
-/// Where the entry of a row belongs behind the row before: the number of its directory, the place among the entries
+/// Where the entry of a row belongs after the row before: the number of its directory, the place among the entries
 /// there, and its name.
 fn place_of<'a>(
     nodes: &Slab<Node>,
@@ -126,7 +126,7 @@ fn bare_node(alloc: Global, row: &Row, limits: Limits) -> Result<Node, AllocErro
     }
 }
 
-/// Adds the node of a row behind the row before, and answers whether it fits there.
+/// Adds the node of a row after the row before, and answers whether it fits there.
 fn add_row(
     alloc: Global,
     nodes: &mut Slab<Node>,

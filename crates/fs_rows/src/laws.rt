@@ -2,9 +2,9 @@
 
 ghost use Rattle.fs_rows.specs.Laws.{FittingRowsAreTrees, EarlierRepliesArePlain};
 
-/// Rows of which each one fits behind those before it are the entries of a tree within the limits of entries and bytes, where
-/// no directory has bytes, and there are no other such lists of rows. So the first row that does not fit is the first that
-/// no such tree has there.
+/// If each row of a list fits after those before it, the rows are the entries of a tree within the limits of entries
+/// and bytes, in which no directory has bytes. There are no other such lists of rows. So the first row that does not
+/// fit is the first that no such tree has there.
 pub fn fitting_rows_are_trees()
     ensures { FittingRowsAreTrees }
 {}

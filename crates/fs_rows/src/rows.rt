@@ -15,7 +15,7 @@ use slab::Slab;
 use std::alloc::{AllocError, Global};
 use std::marker::Model;
 
-/// An entry of a tree: what stands at a key, which may have more names than a path.
+/// An entry of a tree: what is at a key, which may have more names than a path.
 #[derive(Drop)]
 pub struct Row {
     /// The names from the root down.

@@ -2,10 +2,11 @@
 
 use crate::scene::{Card, Fault, Mark, Reported, Scene, What, short};
 use crate::seat_names::seat_names;
-use fs_calls::Call;
+use fs_calls::{Call, Reply};
 use fs_names::{CallNo, SeatNo};
 use fs_sched::{call_of, due_reply, kind_text, push_verdict};
 use fs_script::Journal;
+use fs_sight::{Tree, trees_of};
 use fs_timeline::{Entry, FaultKind, Verdict};
 use fs_words::Addition;
 use std::alloc::{AllocError, Global};
@@ -104,8 +105,10 @@ impl Reading {
                 marks: Vec::new(alloc),
                 names: Vec::new(alloc),
                 checkpoints: Vec::new(alloc),
+                trees: Vec::new(alloc),
                 fault: fault_of(alloc, verdict)?,
                 is_run: false,
+                folds: false,
                 calls: 0,
                 around: None,
             },
@@ -214,15 +217,45 @@ impl Reading {
                 let Some((place, true, false)) = self.find(*number) else {
                     return Ok(false);
                 };
-                if let Some(card) = self.scene.cards.get_mut(place) {
-                    card.reply = Reported::of(self.alloc, reply)?;
-                    let lane = card.lane;
-                    let _ = self.set_busy(lane, false);
-                }
-                self.push_mark(at, place, What::Return)?;
+                self.end(at, place, reply)?;
                 Ok(true)
             }
         }
+    }
+
+    /// A call returns.
+    fn end(&mut self, at: u64, place: usize, reply: &Reply) -> Result<(), AllocError> {
+        if let Some(card) = self.scene.cards.get_mut(place) {
+            card.reply = Reported::of(self.alloc, reply)?;
+            let lane = card.lane;
+            let _ = self.set_busy(lane, false);
+        }
+        self.push_mark(at, place, What::Return)
+    }
+
+    /// The return of a call that has not committed is drawn where it is, and the fault there; and the answer is what is said of it.
+    /// None where the entry is no such return.
+    fn add_unexplained(
+        &mut self,
+        at: u64,
+        entry: &Entry,
+        is_last: bool,
+    ) -> Result<Option<&'static [u8]>, AllocError> {
+        let Entry::Return(number, reply) = entry else {
+            return Ok(None);
+        };
+        let Some((place, false, false)) = self.find(*number) else {
+            return Ok(None);
+        };
+        if let Some(fault) = &mut self.scene.fault {
+            fault.mark = Some(self.scene.marks.len());
+        }
+        self.end(at, place, reply)?;
+        Ok(Some(if is_last {
+            b"no order explains it"
+        } else {
+            b"before its commit"
+        }))
     }
 
     /// The place among the calls of the call of which an entry tells that does not fit. One that has not begun is drawn there: where
@@ -282,12 +315,49 @@ impl Reading {
         if *place as u64 != at {
             return Ok(());
         }
+        let is_last = *place >= entries.len();
+        let said = match self.add_unexplained(at, entry, is_last)? {
+            Some(said) => said,
+            None => kind_text(*kind),
+        };
         if let Some(card) = self.call_at_fault(at, entry, entries)? {
             if let Some(card) = self.scene.cards.get_mut(card) {
-                card.fault.extend_from_slice(kind_text(*kind))?;
+                card.fault.extend_from_slice(said)?;
             }
         }
         Ok(())
+    }
+
+    /// The calls of these entries that committed, in the order of their commits, with their places among the calls.
+    fn committed<'e>(&self, entries: &'e [Entry]) -> Result<Vec<(usize, &'e Call)>, AllocError> {
+        let mut calls = BTreeMap::new(self.alloc);
+        let mut commits = Vec::new(self.alloc);
+        for entry in entries {
+            match entry {
+                Entry::Begin(number, _, call) => {
+                    calls.insert(number.get(), call)?;
+                }
+                Entry::Commit(number) => {
+                    if let (Some(card), Some(call)) = (
+                        self.cards.get(&number.get()),
+                        calls.get(&number.get()),
+                    ) {
+                        commits.push((*card, *call))?;
+                    }
+                }
+                Entry::Return(_, _) => {}
+            }
+        }
+        Ok(commits)
+    }
+
+    /// The trees before and after the commits of these entries of a journal.
+    fn trees_in(&self, journal: &Journal, entries: &[Entry]) -> Result<Vec<Tree>, AllocError> {
+        if self.scene.is_large() {
+            return Ok(Vec::new(self.alloc));
+        }
+        let commits = self.committed(entries)?;
+        trees_of(self.alloc, journal.start.copy()?, commits.as_slice(), true)
     }
 }
 
@@ -326,15 +396,21 @@ pub fn scene_of_journal(
     let entries = journal.entries.as_slice();
     let mut reading = Reading::new(alloc, entries, verdict, text)?;
     let mut at = 0u64;
+    let mut fitting = 0usize;
     for entry in entries {
         at = at.saturating_add(1);
         if !reading.entry(at, entry)? {
             reading.mark_fault(at, entry, entries, verdict)?;
             break;
         }
+        fitting = fitting.saturating_add(1);
     }
+    let trees = reading.trees_in(journal, entries.get(..fitting).unwrap_or(&[]))?;
     let mut scene = reading.scene;
     scene.calls = scene.cards.len();
-    set_due(alloc, journal, &mut scene)?;
+    scene.trees = trees;
+    if let Verdict::Fault(_, FaultKind::WrongReply) = verdict {
+        set_due(alloc, journal, &mut scene)?;
+    }
     Ok(scene)
 }

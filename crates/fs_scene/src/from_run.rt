@@ -2,8 +2,10 @@
 
 use crate::labels::{last_name, push_who};
 use crate::scene::{Card, Mark, Reported, Scene, What, short};
-use fs_calls::Reply;
+use fs_calls::{Call, Reply};
 use fs_script::Script;
+use fs_seq::SeqTree;
+use fs_sight::{Text, Tree, note_alike, trees_of};
 use fs_story::{CallPlace, Deed, Line, Page, Story};
 use std::alloc::{AllocError, Global};
 use std::collections::BTreeMap;
@@ -104,8 +106,10 @@ impl Strip {
                 marks: Vec::new(alloc),
                 names: Vec::new(alloc),
                 checkpoints: Vec::new(alloc),
+                trees: Vec::new(alloc),
                 fault: None,
                 is_run: true,
+                folds: false,
                 around: None,
             },
             places: BTreeMap::new(alloc),
@@ -139,6 +143,13 @@ impl Strip {
         Ok(word)
     }
 
+    /// Adds a text to the names, and answers where.
+    fn push_text(&mut self, bytes: Vec<u8>) -> Result<u32, AllocError> {
+        let place = short(self.scene.names.len());
+        self.scene.names.push(Text { bytes, alike: 0 })?;
+        Ok(place)
+    }
+
     /// Where the word of the call for which a line waits stands among the names; 0 where it waits for none.
     fn holder_of(&mut self, line: &Line) -> Result<u32, AllocError> {
         let Deed::Waits(_, holder) = line.deed else {
@@ -148,9 +159,8 @@ impl Strip {
         if let Some(place) = self.holders.get(&card) {
             return Ok(*place);
         }
-        let place = short(self.scene.names.len());
         let word = self.word_of(card)?;
-        self.scene.names.push(word)?;
+        let place = self.push_text(word)?;
         self.holders.insert(card, place)?;
         Ok(place)
     }
@@ -180,14 +190,13 @@ impl Strip {
         };
         if let Some(place) = self.places.get(&node) {
             if let Some(old) = self.scene.names.get(*place as usize) {
-                if old.as_slice() == name {
+                if old.bytes.as_slice() == name {
                     return Ok(Some(*place));
                 }
             }
         }
-        let place = short(self.scene.names.len());
+        let place = self.push_text(Vec::from_slice(self.alloc, name)?)?;
         self.places.insert(node, place)?;
-        self.scene.names.push(Vec::from_slice(self.alloc, name)?)?;
         Ok(Some(place))
     }
 }
@@ -229,6 +238,50 @@ fn add_words(
     Ok(())
 }
 
+/// The calls that committed, in the order of their commits, with their places among the calls.
+fn committed<'s>(
+    alloc: Global,
+    script: &'s Script,
+    calls: &[CallPlace],
+    cards: &[Card],
+) -> Result<Vec<(usize, &'s Call)>, AllocError> {
+    let mut order = BTreeMap::new(alloc);
+    for i in 0..cards.len() {
+        if cards[i].order > 0 {
+            order.insert(cards[i].commit, i)?;
+        }
+    }
+    let mut commits = Vec::new(alloc);
+    for at in order.values() {
+        if let Some(place) = calls.get(*at) {
+            if let Some(call) = script.lists.of(place.seat).get(place.at) {
+                commits.push((*at, call))?;
+            }
+        }
+    }
+    Ok(commits)
+}
+
+/// The trees before and after the commits of a run.
+fn trees_in(
+    alloc: Global,
+    script: &Script,
+    calls: &[CallPlace],
+    scene: &Scene,
+) -> Result<Vec<Tree>, AllocError> {
+    if scene.is_large() {
+        return Ok(Vec::new(alloc));
+    }
+    let commits = committed(alloc, script, calls, scene.cards.as_slice())?;
+    let tree = SeqTree::with_limits(alloc, script.limits)?;
+    trees_of(
+        alloc,
+        tree,
+        commits.as_slice(),
+        scene.checkpoints.is_empty(),
+    )
+}
+
 /// The scene of a run that was told: all its pieces, one after the other.
 pub fn scene_of_run(
     alloc: Global,
@@ -250,5 +303,7 @@ pub fn scene_of_run(
         &mut scene.cards,
     )?;
     scene.calls = scene.cards.len();
+    scene.trees = trees_in(alloc, script, calls.as_slice(), &scene)?;
+    note_alike(alloc, &mut scene.names)?;
     Ok(scene)
 }

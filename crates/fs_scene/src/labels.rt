@@ -1,6 +1,7 @@
 //! The words of labels, cut where they are long. A `%` with its two digits stays whole.
 
-use crate::scene::{ARROW, Card, ELLIPSIS};
+use crate::scene::Card;
+use fs_sight::{ARROW, ELLIPSIS, push_apart, push_cut, push_cut_quoted};
 use fs_text::errno_text;
 use itoa::Buffer;
 use std::alloc::{AllocError, Global};
@@ -12,31 +13,10 @@ const PATHS_WIDTH: usize = 20;
 
 const WORD_WIDTH: usize = 10;
 
+/// The most characters of the bytes of a call.
+const DATA_WIDTH: usize = 16;
+
 const REPLY_WIDTH: usize = 20;
-
-/// The front of a text of at most so many bytes, which parts no escape.
-fn front(text: &[u8], most: usize) -> &[u8] {
-    let mut end = most;
-    if end >= 1 && text.get(end - 1) == Some(&b'%') {
-        end -= 1;
-    } else if end >= 2 && text.get(end - 2) == Some(&b'%') {
-        end -= 2;
-    }
-    match text.get(..end) {
-        Some(front) => front,
-        None => text,
-    }
-}
-
-/// Adds a text, cut at its end where it is longer than so many characters.
-pub fn push_cut(text: &[u8], most: usize, label: &mut Vec<u8>) -> Result<(), AllocError> {
-    if text.len() <= most {
-        return label.extend_from_slice(text);
-    }
-    label.extend_from_slice(front(text, most.saturating_sub(1)))?;
-    label.push(ELLIPSIS)?;
-    Ok(())
-}
 
 /// Where the last names of a path begin that have at most so many characters; the end of the path where the last one has more.
 fn tail(path: &[u8], most: usize) -> usize {
@@ -71,7 +51,7 @@ pub fn last_name(path: &[u8]) -> &[u8] {
     }
 }
 
-/// Adds a path, cut at its front where it is longer than so many characters, and else at the end of its last name.
+/// Adds a path, cut at its front where it is longer than so many characters, and else in the middle of its last name.
 fn push_path(path: &[u8], most: usize, label: &mut Vec<u8>) -> Result<(), AllocError> {
     if path.len() <= most {
         return label.extend_from_slice(path);
@@ -86,10 +66,10 @@ fn push_path(path: &[u8], most: usize, label: &mut Vec<u8>) -> Result<(), AllocE
     }
 }
 
-/// Adds the last name of a path with its slash, cut at its end.
+/// Adds the last name of a path with its slash, cut in its middle.
 fn push_last_name(path: &[u8], most: usize, label: &mut Vec<u8>) -> Result<(), AllocError> {
     match path.get(last_slash(path)..) {
-        Some(name) => push_cut(name, most, label),
+        Some(name) => push_apart(name, name.len(), most, label),
         None => Ok(()),
     }
 }
@@ -127,12 +107,26 @@ fn push_call(card: &Card, label: &mut Vec<u8>) -> Result<(), AllocError> {
             push_word(word, path_width, label)?;
         }
         if end >= words.len() {
-            return Ok(());
+            return push_data(card, label);
         }
         label.push(b' ')?;
         from = end + 1;
     }
     Ok(())
+}
+
+/// Adds the bytes that a call writes.
+fn push_data(card: &Card, label: &mut Vec<u8>) -> Result<(), AllocError> {
+    if card.data.is_empty() {
+        return Ok(());
+    }
+    label.push(b' ')?;
+    push_cut_quoted(card.data.as_slice(), DATA_WIDTH, label)
+}
+
+/// Adds a call to a heading: its words, cut where they are long.
+pub fn push_call_of(card: &Card, words: &mut Vec<u8>) -> Result<(), AllocError> {
+    push_call(card, words)
 }
 
 /// Adds a call as one word: its thread, and its place among the calls of that.
@@ -148,7 +142,7 @@ fn push_number(number: u64, label: &mut Vec<u8>) -> Result<(), AllocError> {
     label.extend_from_slice(buffer.format(number).as_bytes())
 }
 
-/// A label: what is plain in it, and what is told as a failure.
+/// A label: what is plain in it, and what is reported as a failure.
 #[derive(Drop)]
 pub struct Label {
     pub plain: Vec<u8>,
@@ -175,7 +169,7 @@ fn push_reply(card: &Card, label: &mut Label) -> Result<(), AllocError> {
         }
         None => {
             label.plain.extend_from_slice(&[ARROW, b' '])?;
-            push_cut(card.reply.words.as_slice(), REPLY_WIDTH, &mut label.plain)?;
+            push_cut_quoted(card.reply.words.as_slice(), REPLY_WIDTH, &mut label.plain)?;
         }
     }
     if card.due.is_none() {
@@ -184,7 +178,7 @@ fn push_reply(card: &Card, label: &mut Label) -> Result<(), AllocError> {
     label.failure.extend_from_slice(b", due ")?;
     match card.due.errno {
         Some(errno) => label.failure.extend_from_slice(errno_text(errno)),
-        None => push_cut(card.due.words.as_slice(), REPLY_WIDTH, &mut label.failure),
+        None => push_cut_quoted(card.due.words.as_slice(), REPLY_WIDTH, &mut label.failure),
     }
 }
 
@@ -197,8 +191,27 @@ fn push_fault(card: &Card, label: &mut Label) -> Result<(), AllocError> {
     label.failure.extend_from_slice(card.fault.as_slice())
 }
 
-/// The label of a call: where it begins, or in a later row.
-pub fn label_of(alloc: Global, card: &Card, again: bool, short: bool) -> Result<Label, AllocError> {
+impl Label {
+    /// The label, cut where it has more characters than these.
+    fn fitted(mut self, most: usize) -> Result<Label, AllocError> {
+        self.failure.truncate(most);
+        let room = most.saturating_sub(self.failure.len());
+        if self.plain.len() > room {
+            self.plain.truncate(room.saturating_sub(1));
+            self.plain.push(ELLIPSIS)?;
+        }
+        Ok(self)
+    }
+}
+
+/// The label of a call, of no more than so many characters: where it begins, or in a later row.
+pub fn label_of(
+    alloc: Global,
+    card: &Card,
+    again: bool,
+    short: bool,
+    most: usize,
+) -> Result<Label, AllocError> {
     let mut label = Label {
         plain: Vec::new(alloc),
         failure: Vec::new(alloc),
@@ -213,5 +226,5 @@ pub fn label_of(alloc: Global, card: &Card, again: bool, short: bool) -> Result<
         push_reply(card, &mut label)?;
     }
     push_fault(card, &mut label)?;
-    Ok(label)
+    label.fitted(most)
 }

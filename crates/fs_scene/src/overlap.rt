@@ -1,6 +1,7 @@
 //! One call, and those that overlap it.
 
 use crate::scene::{Card, Fault, Mark, Scene, What, short};
+use fs_sight::{Tree, When};
 use std::alloc::{AllocError, Global};
 
 /// Whether two calls overlap: neither ended before the other began. A call that did not return has no end.
@@ -178,6 +179,26 @@ fn between(alloc: Global, checkpoints: &[u64], marks: &[Mark]) -> Result<Vec<u64
     Ok(kept)
 }
 
+/// The trees before the first commit, and after each commit of a call that has a new place.
+fn moved_trees(
+    alloc: Global,
+    old: Vec<Tree>,
+    cards: &[Option<usize>],
+) -> Result<Vec<Tree>, AllocError> {
+    let mut new = Vec::new(alloc);
+    for mut tree in old {
+        let when = match tree.when {
+            When::After(card) => place_in(cards, card).map(|card| When::After(card)),
+            when => Some(when),
+        };
+        if let Some(when) = when {
+            tree.when = when;
+            new.push(tree)?;
+        }
+    }
+    Ok(new)
+}
+
 /// The fault with the new place of its mark; none where that mark has none.
 fn moved_fault(fault: Option<Fault>, mark: Option<usize>) -> Option<Fault> {
     let Fault { words, mark: old } = fault?;
@@ -201,8 +222,10 @@ fn moved(
         marks: all,
         names: of_nodes,
         checkpoints,
+        trees,
         fault,
         is_run,
+        folds,
         calls,
         ..
     } = scene;
@@ -226,8 +249,10 @@ fn moved(
         checkpoints: between(alloc, checkpoints.as_slice(), marks.as_slice())?,
         marks,
         names: of_nodes,
+        trees: moved_trees(alloc, trees, cards)?,
         fault: moved_fault(fault, fault_at),
         is_run,
+        folds,
         calls,
         around: Some(number),
     })

@@ -1,14 +1,8 @@
 //! What is drawn: lanes, calls, and the marks of what they did, in order.
 
 use fs_calls::{Call, Errno, NodeCall, Reply, Target};
-use fs_text::{write_call, write_reply};
+use fs_sight::{Text, Tree, push_apart, write_shown_call, write_shown_reply};
 use std::alloc::{AllocError, Global};
-
-/// A sign in a text that is no byte of it: something was left out here.
-pub const ELLIPSIS: u8 = 1;
-
-/// A sign in a text: what follows is the reply.
-pub const ARROW: u8 = 2;
 
 /// What a call did at a mark.
 #[derive(Clone, Copy, Debug, PartialEq, Eq)]
@@ -50,7 +44,7 @@ pub struct Mark {
     pub what: What,
 }
 
-/// The words of a reply, and the error that it tells; no words where there is none.
+/// The words of a reply, and the error that it reports; no words where there is none.
 #[derive(Drop)]
 pub struct Reported {
     pub words: Vec<u8>,
@@ -69,7 +63,7 @@ impl Reported {
     /// A reply.
     pub fn of(alloc: Global, reply: &Reply) -> Result<Reported, AllocError> {
         let mut words = Vec::new(alloc);
-        write_reply(alloc, reply, &mut words)?;
+        write_shown_reply(alloc, reply, &mut words)?;
         let errno = match reply {
             Reply::Failed(errno) => Some(*errno),
             _ => None,
@@ -84,7 +78,7 @@ impl Reported {
 }
 
 /// A call: its number, which counts from 1 behind each checkpoint, its lane, its place among the calls of that, counted from 1, its
-/// words, its reply (none where it did not return), the reply that was due where it is another one, the kind of the fault where an entry of it has another fault, and where
+/// words, the bytes that it writes as they are shown (none where it writes none), its reply (none where it did not return), the reply that was due where it is another one, the kind of the fault where an entry of it has another fault, and where
 /// it began, ended, took its place and was carried out. Numbers that are not there are 0.
 #[derive(Drop)]
 pub struct Card {
@@ -92,6 +86,7 @@ pub struct Card {
     pub lane: usize,
     pub turn: u64,
     pub words: Vec<u8>,
+    pub data: Vec<u8>,
     pub has_two_paths: bool,
     pub reply: Reported,
     pub due: Reported,
@@ -112,6 +107,7 @@ impl Card {
             lane,
             turn,
             words: Vec::new(alloc),
+            data: Vec::new(alloc),
             has_two_paths: false,
             reply: Reported::none(alloc),
             due: Reported::none(alloc),
@@ -131,7 +127,7 @@ impl Card {
             call.target(),
             Target::Pair(_, _, _) | Target::Node(NodeCall::ListAfter(_, _), _)
         );
-        write_call(alloc, call, &mut self.words)
+        write_shown_call(alloc, call, &mut self.words, &mut self.data)
     }
 }
 
@@ -142,17 +138,20 @@ pub struct Fault {
     pub mark: Option<usize>,
 }
 
-/// What is drawn: the names of the lanes, the calls in the order of their begins, the marks, the names and the words of calls of which
-/// they tell, and of each checkpoint the number of the event behind it; whether it is a run, of which each event is told; and how many calls there are in all.
+/// What is drawn: the names of the lanes, the calls in the order of their begins, the marks, the names and the words of calls that
+/// they mention, and of each checkpoint the number of the event after it; the trees before and after commits; whether it is a run, of
+/// which each event is known; whether a wait has one mark, whoever holds the node; and how many calls there are in all.
 #[derive(Drop)]
 pub struct Scene {
     pub lanes: Vec<Vec<u8>>,
     pub cards: Vec<Card>,
     pub marks: Vec<Mark>,
-    pub names: Vec<Vec<u8>>,
+    pub names: Vec<Text>,
     pub checkpoints: Vec<u64>,
+    pub trees: Vec<Tree>,
     pub fault: Option<Fault>,
     pub is_run: bool,
+    pub folds: bool,
     pub calls: usize,
     pub around: Option<u64>,
 }
@@ -178,9 +177,9 @@ impl Scene {
         self.lanes.len() > 16
     }
 
-    /// The last name of the node of which a mark tells; no bytes where it tells of none.
-    pub fn name_of(&self, mark: &Mark) -> &[u8] {
-        match mark.name {
+    /// The last name of the node at this place among the names; no bytes for none.
+    pub fn name_at(&self, place: Option<u32>) -> &[u8] {
+        match place {
             Some(place) => self.text_at(place),
             None => &[],
         }
@@ -189,9 +188,23 @@ impl Scene {
     /// A text among the names; no bytes where there is none at this place.
     pub fn text_at(&self, place: u32) -> &[u8] {
         match self.names.get(place as usize) {
-            Some(text) => text.as_slice(),
+            Some(text) => text.bytes.as_slice(),
             None => &[],
         }
+    }
+
+    /// Adds the name at this place among the names, cut to so many characters where it is longer: so that it differs from the
+    /// others of the scene.
+    pub fn push_name(
+        &self,
+        place: Option<u32>,
+        most: usize,
+        label: &mut Vec<u8>,
+    ) -> Result<(), AllocError> {
+        if let Some(text) = self.names.get(place.unwrap_or(u32::MAX) as usize) {
+            return push_apart(text.bytes.as_slice(), text.alike, most, label);
+        }
+        Ok(())
     }
 
     /// The call of a mark.

@@ -1,6 +1,7 @@
 //! The names that a journal's comments give to its seats.
 
 use fs_script::limits::THREAD_NAME_LIMIT;
+use fs_words::FaultKind;
 use fs_words::lines::{cut_line, cut_words};
 use fs_words::words::{is_word, number_of};
 use std::alloc::{AllocError, Global};
@@ -35,9 +36,15 @@ pub(crate) fn seat_names<'a>(
     let mut words = Vec::new(alloc);
     let mut left = text;
     'lines: while let Some((line, rest)) = cut_line(left) {
-        if line.first() == Some(&b'#') && cut_words(line, &mut words).is_ok() {
-            if let Some((seat, name)) = named(&words) {
-                names.insert(seat, name)?;
+        if line.first() == Some(&b'#') {
+            match cut_words(line, &mut words) {
+                Ok(()) => {
+                    if let Some((seat, name)) = named(&words) {
+                        names.insert(seat, name)?;
+                    }
+                }
+                Err(FaultKind::OutOfMemory) => return Err(AllocError),
+                Err(_) => {}
             }
         }
         left = rest;

@@ -1,18 +1,21 @@
 -- Events of drawn threads, as words.
-use Rattle.std.proofs.Common.{◌≡◌, ℕ, List, [], ◌∷◌, ◌++◌, length, map, refl, Ok, ap, ap₂, ◌∙◌, subst, inl, inr}
+use Rattle.std.proofs.Common.{◌≡◌, ℕ, List, [], ◌∷◌, ◌++◌, length, map, replicate, refl, Ok, ap, ap₂, ◌∙◌, subst, inl, inr}
 use Rattle.std.specs.List.{range_with_len}
 use Rattle.fs_calls.specs.Starts.{root_start}
 use Rattle.fs_calls.specs.declared.call.Call.{Call}
 use Rattle.fs_timeline.specs.declared.entry.Entry.{Entry}
 use Rattle.fs_laws.proofs.journal.ViewOfTimeline.{begin_start, step_start}
 use Rattle.fs_script.specs.declared.script.Script.{Script}
+use Rattle.fs_script.specs.declared.script.Word.{Word}
+use Rattle.fs_script.specs.declared.script.Word.TheVariants as words
 use Rattle.fs_sched.specs.Runs.{Stage, start, Event, Goes, Starts, Spent, Events, ToEnd, Over, More, Words, Runs, Stops, StopsInWords}
 use Rattle.fs_sched.specs.Laws.{IsUnderWay}
-use Rattle.fs_sched.specs.Schedules.{one_event, drawn_seats}
+use Rattle.fs_sched.specs.Schedules.{one_event, drawn_seats, prepared}
 use Rattle.fs_verdict.specs.declared.fault.RunFault.TheVariants.{Full, UnderWay}
 use Rattle.fs_sched.specs.declared.schedule.Schedule.TheVariants.{Seeded}
 use Rattle.fs_sched.specs.declared.schedule.TheConstants.{DRAW_LIMIT}
 use Rattle.fs_sched.proofs.Ends.{at_word}
+use Rattle.fs_sched.proofs.Preparing.{OnlyEvents, only_drawn}
 
 pub drawn_words : (lists : List (List Call)) (seats : List ℕ) (old new : Stage) → Events lists old seats new → Words lists old (map one_event seats) [] new
 drawn_words lists [] old new e = (e, refl)
@@ -23,14 +26,24 @@ drawn_stops lists [] old stops = stops
 drawn_stops lists (seat ∷ seats) old (inl refused) = inl (inl refused)
 drawn_stops lists (seat ∷ seats) old (inr (middle, event, rest)) = inr (middle, [], ((middle, event, refl), refl), drawn_stops lists seats middle rest)
 
-no_checkpoint : (lists : List (List Call)) (seats : List ℕ) (old : Stage) (c : ℕ) → StopsInWords lists old (map one_event seats) (UnderWay c) → ⊥
-no_checkpoint lists [] old c stops = stops
-no_checkpoint lists (seat ∷ seats) old c (inl stops) = stops
-no_checkpoint lists (seat ∷ seats) old c (inr (middle, told, does, rest)) = no_checkpoint lists seats middle c rest
+no_checkpoint : (lists : List (List Call)) (ws : List Word) (old : Stage) (c : ℕ) → OnlyEvents ws → StopsInWords lists old ws (UnderWay c) → ⊥
+no_checkpoint lists [] old c only stops = stops
+no_checkpoint lists (words.Events seat times ∷ ws) old c only (inl stops) = stops
+no_checkpoint lists (words.Events seat times ∷ ws) old c only (inr (middle, told, does, rest)) = no_checkpoint lists ws middle c only rest
+no_checkpoint lists (words.Checkpoint ∷ ws) old c only stops = only
+no_checkpoint lists (words.Finish ∷ ws) old c only stops = only
+no_checkpoint lists (words.Drawn ∷ ws) old c only stops = only
+
+-- the words of a drawn run
+abbrev words_drawn : ℕ → Script → List Word
+words_drawn n script = prepared script.words ++ map one_event (drawn_seats n (length script.lists) DRAW_LIMIT)
+
+only_words : (n : ℕ) (script : Script) → OnlyEvents (words_drawn n script)
+only_words n script = only_drawn script.words (drawn_seats n (length script.lists) DRAW_LIMIT)
 
 -- a drawn run comes to no checkpoint
 pub never_under_way : (n : ℕ) (script : Script) (c : ℕ) → IsUnderWay (Seeded n) script c → ⊥
-never_under_way n script c under = no_checkpoint script.lists (drawn_seats n (length script.lists) DRAW_LIMIT) (start script.limits (length script.lists)) c (at_word (Seeded n) script c under)
+never_under_way n script c under = no_checkpoint script.lists (words_drawn n script) (start script.limits (length script.lists)) c (only_words n script) (at_word (Seeded n) script c under)
 
 event_start : (lists : List (List Call)) (old new : Stage) (seat : ℕ) → Event lists old seat new → new.state.start ≡ old.state.start
 event_start lists old new seat (Goes c answer on step kept) = step_start old.state seat answer new.state step
@@ -46,14 +59,17 @@ end_start lists old last (Over over) = refl
 end_start lists old last (More {middle} more round rest) = end_start lists middle last rest ∙ events_start lists (range_with_len 0 (length lists)) old middle round
 
 -- its words are one piece
-words_start : (lists : List (List Call)) (seats : List ℕ) (told : List Entry) (old new : Stage) → Words lists old (map one_event seats) told new → (told ≡ []) × (new.state.start ≡ old.state.start)
-words_start lists [] told old new (e, none) = (none, ap (λ (x : Stage). x.state.start) e)
-words_start lists (seat ∷ seats) told old new (middle, first, rest, (events, none), after, both) =
-    let more : (rest ≡ []) × (new.state.start ≡ middle.state.start) = words_start lists seats rest middle new after in
-    (both ∙ ap₂ (λ (xs ys : List Entry). xs ++ ys) none more.0, more.1 ∙ events_start lists (seat ∷ []) old middle events)
+words_start : (lists : List (List Call)) (ws : List Word) (told : List Entry) (old new : Stage) → OnlyEvents ws → Words lists old ws told new → (told ≡ []) × (new.state.start ≡ old.state.start)
+words_start lists [] told old new only (e, none) = (none, ap (λ (x : Stage). x.state.start) e)
+words_start lists (words.Events seat times ∷ ws) told old new only (middle, first, rest, (events, none), after, both) =
+    let more : (rest ≡ []) × (new.state.start ≡ middle.state.start) = words_start lists ws rest middle new only after in
+    (both ∙ ap₂ (λ (xs ys : List Entry). xs ++ ys) none more.0, more.1 ∙ events_start lists (replicate times seat) old middle events)
+words_start lists (words.Checkpoint ∷ ws) told old new only all = absurd only
+words_start lists (words.Finish ∷ ws) told old new only all = absurd only
+words_start lists (words.Drawn ∷ ws) told old new only all = absurd only
 
 -- a drawn run is one piece, from the root alone
 pub drawn_once : (n : ℕ) (script : Script) (told : List Entry) (last : Stage) → Runs (Seeded n) script told last → Runs (Seeded n) script [] last × (last.state.start ≡ root_start script.limits)
 drawn_once n script told last runs =
-    let once : (told ≡ []) × (runs.0.state.start ≡ root_start script.limits) = words_start script.lists (drawn_seats n (length script.lists) DRAW_LIMIT) told (start script.limits (length script.lists)) runs.0 runs.1 in
+    let once : (told ≡ []) × (runs.0.state.start ≡ root_start script.limits) = words_start script.lists (words_drawn n script) told (start script.limits (length script.lists)) runs.0 (only_words n script) runs.1 in
     (subst (λ (es : List Entry). Runs (Seeded n) script es last) once.0 runs, end_start script.lists runs.0 last runs.2 ∙ once.1)

@@ -29,6 +29,7 @@ not_both_at : (lists : List (List Call)) (w : Word) (told : List Entry) (a b new
 not_both_at lists (words.Events seat times) told a b new c same run does stops = stops
 not_both_at lists words.Checkpoint told a b new c same run (idle, is, again) least = idle_seat a.state least.seat c run idle (sym (same least.seat) ∙ least.under_way)
 not_both_at lists words.Finish told a b new c same run does stops = stops
+not_both_at lists words.Drawn told a b new c same run does stops = stops
 
 not_both : (lists : List (List Call)) (ws : List Word) (told : List Entry) (a b new : Stage) (c : ℕ) → Same a b → Words lists a ws told new → StopsInWords lists b ws (UnderWay c) → ⊥
 not_both lists [] told a b new c s done stops = stops
@@ -43,6 +44,7 @@ one_at lists words.Checkpoint a b c d s least least_b =
     let above : d ≤ c = least_b.least least.seat c (same_seat a b s least.seat ∙ least.under_way) in
     omega (arith, below, above)
 one_at lists words.Finish a b c d s stops stops_b = absurd stops
+one_at lists words.Drawn a b c d s stops stops_b = absurd stops
 
 one_number : (lists : List (List Call)) (ws : List Word) (a b : Stage) (c d : ℕ) → Same a b → StopsInWords lists a ws (UnderWay c) → StopsInWords lists b ws (UnderWay d) → d ≡ c
 one_number lists [] a b c d s stops stops_b = absurd stops

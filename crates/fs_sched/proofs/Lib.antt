@@ -19,6 +19,7 @@ pub mod Marks
 pub mod Leasts
 pub mod Ends
 pub mod Drawn
+pub mod Preparing
 pub mod Done
 pub mod Reasons
 pub mod Starts

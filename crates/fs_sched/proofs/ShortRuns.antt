@@ -113,6 +113,7 @@ module _ (P : Name → Type 0) (Q : Key → Type 0) (L : Type 0) (named : (k : K
     kept = h.kept;
   })
   does_named lists words.Finish told old new all (same, none) h = subst Named (sym same) h
+  does_named lists words.Drawn told old new all (same, none) h = subst Named (sym same) h
 
   words_named : (lists : List (List Call)) (ws : List Word) (told : List Entry) (old new : Stage) → Lists lists → Words lists old ws told new → Named old → Named new
   words_named lists [] told old new all (same, none) h = subst Named (sym same) h

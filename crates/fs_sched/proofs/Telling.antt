@@ -44,7 +44,7 @@ words_told lists old new (m ∷ ms) (middle, is, rest) = (middle, entries_of m, 
 
 -- ---- words one after the other
 
-words_append : (lists : List (List Call)) (old now new : Stage) (xs ys : List Word) (a b : List Entry) → Words lists old xs a now → Words lists now ys b new → Words lists old (xs ++ ys) (a ++ b) new
+pub words_append : (lists : List (List Call)) (old now new : Stage) (xs ys : List Word) (a b : List Entry) → Words lists old xs a now → Words lists now ys b new → Words lists old (xs ++ ys) (a ++ b) new
 words_append lists old now new [] ys a b (e, none) more = subst (λ (l : List Entry). Words lists old ys (l ++ b) new) (sym none) (subst (λ (s : Stage). Words lists s ys b new) e more)
 words_append lists old now new (x ∷ xs) ys a b (middle, first, rest, does, after, both) more =
     (middle, first, rest ++ b, does, words_append lists middle now new xs ys rest b after more, ap (λ (l : List Entry). l ++ b) both ∙ append_assoc first rest b)
@@ -73,6 +73,7 @@ one_regrouped lists old new word.Checkpoint told (middle, first, rest, does, (sa
     let e : told ≡ first = both ∙ ap (λ (l : List Entry). first ++ l) none ∙ append-nil first in
     subst (λ (l : List Entry). Does lists old word.Checkpoint l new) (sym e) (subst (λ (s : Stage). Does lists old word.Checkpoint first s) (sym same) does)
 one_regrouped lists old new word.Finish told all = all
+one_regrouped lists old new word.Drawn told all = all
 
 pub regrouped : (lists : List (List Call)) (old new : Stage) (ws : List Word) (told : List Entry) → Words lists old (given_words ws) told new → Words lists old ws told new
 regrouped lists old new [] told all = all

@@ -179,6 +179,7 @@ does_keep : (lists : List (List Call)) (before told : List Entry) (old new : Sta
 does_keep lists before told old new (words.Events seat times) (events, none) k = none_more (λ es. ListFacts lists es new) before told none (events_keep lists before (replicate times seat) old new events k)
 does_keep lists before told old new words.Checkpoint (idle, is, again) k = subst (λ (es : List Entry). ListFacts lists (before ++ es) new) (sym is) (subst (ListFacts lists (before ++ old.state.timeline)) (sym again) (again_keeps lists before old idle k))
 does_keep lists before told old new words.Finish (same, none) k = none_more (λ es. ListFacts lists es new) before told none (subst (ListFacts lists before) (sym same) k)
+does_keep lists before told old new words.Drawn (same, none) k = none_more (λ es. ListFacts lists es new) before told none (subst (ListFacts lists before) (sym same) k)
 
 pub words_keep : (lists : List (List Call)) (ws : List Word) (before told : List Entry) (old new : Stage) → Words lists old ws told new → ListFacts lists before old → ListFacts lists (before ++ told) new
 words_keep lists [] before told old new (same, none) k = none_more (λ es. ListFacts lists es new) before told none (subst (ListFacts lists before) (sym same) k)

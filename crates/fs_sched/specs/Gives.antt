@@ -2,7 +2,7 @@
 use Rattle.std.specs.Prelude.{ℕ, List, [], ◌∷◌, replicate}
 use Rattle.std.specs.List.{flat_map}
 use Rattle.fs_script.specs.declared.script.Word.{Word}
-use Rattle.fs_script.specs.declared.script.Word.TheVariants.{Events, Checkpoint, Finish}
+use Rattle.fs_script.specs.declared.script.Word.TheVariants.{Events, Checkpoint, Finish, Drawn}
 use Rattle.fs_sched.specs.Schedules.{one_event, words_by}
 use Rattle.fs_sched.specs.declared.schedule.Schedule.{Schedule}
 
@@ -11,6 +11,7 @@ abbrev pub single_words : Word → List Word
 single_words (Events seat times) = replicate times (one_event seat)
 single_words Checkpoint = Checkpoint ∷ []
 single_words Finish = []
+single_words Drawn = []
 
 -- the same of words, from left to right
 abbrev pub given_words : List Word → List Word

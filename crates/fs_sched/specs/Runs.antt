@@ -83,6 +83,7 @@ abbrev pub Does : List (List Call) → Stage → Word → List Entry → Stage �
 Does lists old (word.Events seat times) told new = Events lists old (replicate times seat) new × (told ≡ [])
 Does lists old word.Checkpoint told new = IsIdle old.state × (told ≡ old.state.timeline) × (new ≡ record { state = begun_again old.state; begun = old.begun })
 Does lists old word.Finish told new = (new ≡ old) × (told ≡ [])
+Does lists old word.Drawn told new = (new ≡ old) × (told ≡ [])
 
 -- words from left to right, and the entries of the pieces that end on the way
 abbrev pub Words : List (List Call) → Stage → List Word → List Entry → Stage → Type 0

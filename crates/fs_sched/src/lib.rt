@@ -1,15 +1,15 @@
-//! Runners from a reader to a writer that run scripts, by each schedule.
+//! Runners from a reader to a writer that run scripts, with each schedule.
 //!
-//! `run_script` writes the run text of a script by a schedule, of which there is one; `run_seeds` runs a script by
-//! drawn schedules and has each journal checked. The whole text is made before its first byte is written, and `Read` or
-//! `Write` is answered only if the reader or the writer failed during this call. Checks and faults are those of `fs_verdict`.
+//! `run_script` writes the run text of a script for a schedule; there is exactly one. `run_seeds` runs a script with drawn schedules and
+//! checks each journal. The whole text is made before its first byte is written. `Read` or `Write` is answered only if the reader or the
+//! writer failed during this call. Checks and faults are those of `fs_verdict`.
 //!
-//! All of them play a script in one place, `Play`, which tells a `Witness` each moment where it comes; `watch` plays a script for
-//! its witness alone, `run_on` on a core that begins at a tree. `Silent` is told nothing, and costs nothing.
+//! All of them play a script in one place, `Play`, which reports each moment to a `Witness` when it comes. `watch` plays a script for its
+//! witness alone, and `run_on` plays it on a core that begins at a tree. `Silent` is a witness that gets no reports, and costs nothing.
 //!
-//! Enter at these two, with a `Device` around a reader and a writer, or with a text in memory at `run_bytes`. The definitions
-//! are in `specs/`: `Schedules` and `Runs` (events by each schedule), `RunTexts`, `EachRun` (what is said of every run),
-//! `Seeds`; the module `laws` has what is proved of them, `one_text` among it.
+//! Enter at these two, with a `Device` around a reader and a writer, or with a text in memory at `run_bytes`. The definitions are in
+//! `specs/`: `Schedules` and `Runs` (events for each schedule), `RunTexts`, `EachRun` (what is said of every run), `Seeds`. The module
+//! `laws` has what is proved of them, `one_text` among it.
 #![tactic(auto)]
 
 mod input;

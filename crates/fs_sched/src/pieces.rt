@@ -1,10 +1,11 @@
 //! A script's run, word by word: a checkpoint ends a piece of it, and begins the next.
 
 ghost use Rattle.std.specs.Prelude.{◌≡◌, ◌∷◌, ℕ, [], List, IfOk, OnOk, IfErr, length};
+ghost use Rattle.std.specs.List.{filter};
 ghost use Rattle.fs_calls.specs.declared.call.Call.{Call};
 ghost use Rattle.fs_core.specs.CoreValues.{state_of};
 ghost use Rattle.fs_sched.specs.Runs.{before_all, Does, Words, RunsFrom, StopsAt, StopsInWords, StopsFrom};
-ghost use Rattle.fs_sched.specs.Schedules.{words_by};
+ghost use Rattle.fs_sched.specs.Schedules.{words_by, is_events, prepared};
 ghost use Rattle.fs_sched.specs.Gives.{single_words, given_words, words_before};
 ghost use Rattle.fs_sched.specs.code.Notes.{Notes, NotesCut, NotesRun};
 ghost use Rattle.fs_sched.specs.code.Counts.{AreCapped};
@@ -13,7 +14,7 @@ ghost use Rattle.fs_sched.specs.code.Done.{HasDone};
 
 use crate::play::Play;
 use crate::run_texts::{Counts, counts_of};
-use crate::schedule::Schedule;
+use crate::schedule::{Schedule, ends_drawn, is_events};
 use fs_core::Core;
 use fs_script::{CallLists, Script, Word};
 use fs_verdict::RunFault;
@@ -31,7 +32,7 @@ pub(crate) struct Pieces {
 fn events_of(word: Word) -> u64 {
     match word {
         Word::Events(_, times) => times,
-        Word::Checkpoint | Word::Finish => 0,
+        Word::Checkpoint | Word::Finish | Word::Drawn => 0,
     }
 }
 
@@ -48,7 +49,7 @@ impl Pieces {
         Ok(Pieces { play, told })
     }
 
-    /// The timeline begins again, where no call is under way. Its entries are counted, and told.
+    /// The timeline begins again, if no call is pending. Its entries are counted, and reported.
     fn checkpoint<W: Witness>(&mut self, alloc: Global, witness: &mut W) -> Result<(), RunFault>
         ensures notes { (lists : List (List Call)) → OnOk result (Notes W.Told lists (stage_of self.old.play) witness.old (Word.Checkpoint ∷ []) (stage_of self.new.play) witness.new) }
         ensures done { (lists : List (List Call)) → OnOk result (HasDone (Does lists (stage_of self.old.play) Word.Checkpoint) self.old self.new) }
@@ -83,7 +84,7 @@ impl Pieces {
         match word {
             Word::Events(seat, times) => self.play.events(alloc, lists, seat, times, witness),
             Word::Checkpoint => self.checkpoint(alloc, witness),
-            Word::Finish => Ok(()),
+            Word::Finish | Word::Drawn => Ok(()),
         }
     }
 
@@ -108,6 +109,51 @@ impl Pieces {
         Ok(())
     }
 
+    /// What a word does that prepares a run, if it gives events; else nothing.
+    fn prepare_word<W: Witness>(
+        &mut self,
+        alloc: Global,
+        lists: &CallLists,
+        word: Word,
+        witness: &mut W,
+    ) -> Result<(), RunFault>
+        requires { IsMarked lists.now self.old.play }
+        ensures notes { OnOk result (Notes W.Told lists.now (stage_of self.old.play) witness.old (given_words (filter is_events (word ∷ []))) (stage_of self.new.play) witness.new) }
+        ensures done { OnOk result (HasDone (Words lists.now (stage_of self.old.play) (filter is_events (word ∷ []))) self.old self.new) }
+        ensures seats { OnOk result (IsMarked lists.now self.new.play) }
+        ensures why { IfErr result (IsWhy (StopsInWords lists.now (stage_of self.old.play) (filter is_events (word ∷ [])))) }
+    {
+        if !is_events(&word) {
+            return Ok(());
+        }
+        self.word(alloc, lists, word, witness)?;
+        witness.went_on(events_of(word), self.play.core.timeline().len());
+        Ok(())
+    }
+
+    /// The events of words that prepare a run.
+    fn prepare<W: Witness>(
+        &mut self,
+        alloc: Global,
+        lists: &CallLists,
+        words: &[Word],
+        witness: &mut W,
+    ) -> Result<(), RunFault>
+        requires { IsMarked lists.now self.old.play }
+        ensures notes { OnOk result (Notes W.Told lists.now (stage_of self.old.play) witness.old (given_words (prepared words.now)) (stage_of self.new.play) witness.new) }
+        ensures done { OnOk result (HasDone (Words lists.now (stage_of self.old.play) (prepared words.now)) self.old self.new) }
+        ensures seats { OnOk result (IsMarked lists.now self.new.play) }
+        ensures why { IfErr result (IsWhy (StopsInWords lists.now (stage_of self.old.play) (prepared words.now))) }
+    {
+        if !ends_drawn(words) {
+            return Ok(());
+        }
+        for word in words {
+            self.prepare_word(alloc, lists, *word, witness)?;
+        }
+        Ok(())
+    }
+
     /// The events before rounds to the end.
     fn before<W: Witness>(
         &mut self,
@@ -126,8 +172,13 @@ impl Pieces {
             Schedule::Given => {
                 self.words(alloc, &script.lists, script.words.as_slice(), witness)
             }
-            Schedule::RoundRobin => Ok(()),
-            Schedule::Seeded(seed) => self.play.drawn(alloc, &script.lists, seed, witness),
+            Schedule::RoundRobin => {
+                self.prepare(alloc, &script.lists, script.words.as_slice(), witness)
+            }
+            Schedule::Seeded(seed) => {
+                self.prepare(alloc, &script.lists, script.words.as_slice(), witness)?;
+                self.play.drawn(alloc, &script.lists, seed, witness)
+            }
         }
     }
 

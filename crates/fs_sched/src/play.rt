@@ -79,7 +79,7 @@ impl Play {
         Ok(Play { core, begun, over })
     }
 
-    /// Whether a thread has a call under way, or one left.
+    /// Whether a thread has a pending call, or one left.
     fn has_more(&self, lists: &CallLists, seat: usize) -> bool
         requires seats { IsSeated self.now (length lists.now) }
         requires seat { seat < length lists.now }
@@ -148,8 +148,8 @@ impl Play {
         }
     }
 
-    /// The next call of a thread begins, where one is left; else the thread is over, and marked. The answer is whether one
-    /// was left; then the witness is told.
+    /// The next call of a thread begins, if one is left; else the thread is over, and marked. The answer is whether one
+    /// was left. If so, the witness gets that moment.
     #[inline]
     fn start<W: Witness>(
         &mut self,
@@ -178,9 +178,9 @@ impl Play {
         Ok(true)
     }
 
-    /// An event of a thread, and whether the thread had anything to do. Then the witness is told, first of so many threads that
-    /// have nothing to do. Of one that is not marked the core is asked for a step at once: that it is idle says that no call is
-    /// under way.
+    /// An event of a thread, and whether the thread had anything to do. If so, the witness first gets so many threads
+    /// that have nothing to do, and then this event. If the thread is not marked, the core is asked for a step at once:
+    /// an idle step says that no call is pending.
     #[inline(always)]
     fn happen<W: Witness>(
         &mut self,
@@ -208,7 +208,7 @@ impl Play {
         Ok(true)
     }
 
-    /// The witness is told what an event was answered.
+    /// Reports to the witness what an event was answered.
     #[inline(always)]
     fn tell<W: Witness>(&self, seat: usize, answer: Answer, witness: &mut W) -> Result<(), RunFault>
         ensures told { OnOk result (Hears W.Told witness.old (event_of seat answer ∷ []) witness.new) }
@@ -221,7 +221,7 @@ impl Play {
         }
     }
 
-    /// The same behind the events of so many threads that have nothing to do.
+    /// The same after the events of so many threads that have nothing to do.
     #[inline(always)]
     fn tell_behind<W: Witness>(
         &self,
@@ -238,7 +238,7 @@ impl Play {
         self.tell(seat, answer, witness)
     }
 
-    /// An event of a thread, told.
+    /// An event of a thread, with a report to the witness.
     #[inline(always)]
     fn event<W: Witness>(
         &mut self,
@@ -260,7 +260,7 @@ impl Play {
         self.tell(seat, Answer::Spent, witness)
     }
 
-    /// The witness is told of so many events of a thread that has nothing to do.
+    /// Reports to the witness so many events of a thread that has nothing to do.
     #[inline(always)]
     fn tell_spent<W: Witness>(
         &self,
@@ -278,7 +278,7 @@ impl Play {
         Ok(())
     }
 
-    /// The witness is told of an event of each thread before one, which have nothing to do.
+    /// Reports to the witness an event of each thread before one, which have nothing to do.
     #[inline(always)]
     fn tell_over<W: Witness>(&self, first: usize, witness: &mut W) -> Result<(), RunFault>
         ensures told { OnOk result (Hears W.Told witness.old (map spent_of (range_with_len 0 first)) witness.new) }
@@ -316,7 +316,7 @@ impl Play {
         Ok(())
     }
 
-    /// The timeline begins again, where no call is under way, and its entries are handed out.
+    /// The timeline begins again, if no call is pending, and its entries are handed out.
     pub(crate) fn begin_again(&mut self, alloc: Global) -> Result<Vec<Entry>, RunFault>
         ensures does { (lists : List (List Call)) → IfOk result (λ entries. Does lists (stage_of self.old) Word.Checkpoint entries.items (stage_of self.new)) }
         ensures seats { (lists : List (List Call)) → IsMarked lists self.old → OnOk result (IsMarked lists self.new) }

@@ -85,7 +85,7 @@ impl Counts {
     }
 }
 
-/// A text that tells entries, and how many of each kind they are.
+/// The text of entries, and how many of each kind they are.
 #[derive(Drop)]
 pub(crate) struct CountedText {
     pub(crate) text: Vec<u8>,
@@ -95,7 +95,7 @@ pub(crate) struct CountedText {
 /// For how many bytes an entry the text of a run has room before its first line, where there is memory for it.
 const LINE_ROOM: usize = 32;
 
-/// A journal from a start tree: what stands before its entries, and a line for each. The entries are counted on the way.
+/// A journal from a start tree: what comes before its entries, and a line for each. The entries are counted on the way.
 fn journal_text(
     alloc: Global,
     start: &SeqTree,

@@ -155,7 +155,8 @@ fn text_of_script<Listener: Witness>(
     run_on(alloc, core, script, schedule, witness)
 }
 
-/// The text of a run of a script in memory, as `run_script` writes it, without spare room. The script is read where it stands.
+/// The text of a run of a script in memory, as `run_script` writes it, without spare room. The script is read without a
+/// copy of it.
 pub fn run_bytes(alloc: Global, script: &[u8], schedule: Schedule) -> Result<Vec<u8>, RunFault>
     ensures ran { IfOk result (λ text. (end : RunEnd) × AreOfTheRun schedule script.now end text.items) }
     ensures linearizable { IfOk result (λ text. IsLinearizableRun schedule script.now text.items) }
@@ -172,9 +173,9 @@ pub fn run_bytes(alloc: Global, script: &[u8], schedule: Schedule) -> Result<Vec
     }
 }
 
-/// Reads a script to its end, runs it by a schedule, and writes the text of the run, which is made before its first
-/// byte is written. The answer says how many calls began, took their place and returned, in all pieces of the run; the text
-/// is that of the last piece. Whoever is told of progress hears of each round, drawn event and word.
+/// Reads a script to its end, runs it with a schedule, and writes the text of the run, which is made before its first
+/// byte is written. The answer says how many calls began, committed and returned, in all pieces of the run. The text is
+/// that of the last piece. A listener for progress hears of each round, drawn event and word.
 pub fn run_script<R: Source, W: Sink, Listener: Witness>(
     alloc: Global,
     reader: &mut R,

@@ -2,7 +2,7 @@
 
 ghost use Rattle.std.specs.Prelude.{◌≡◌, ◌<◌, ◌∷◌, ℕ, suc};
 ghost use Rattle.std.specs.List.{list_any};
-ghost use Rattle.fs_sched.specs.Schedules.{generator_of, seats_from, is_finish, goes_on};
+ghost use Rattle.fs_sched.specs.Schedules.{generator_of, seats_from, is_finish, is_drawn, is_events, ends_drawn, goes_on};
 
 use crate::seats::Divisor;
 use fs_script::Word;
@@ -14,12 +14,13 @@ use std::marker::Model;
 /// The order of events.
 #[derive(Clone, Copy, Debug, PartialEq, Eq)]
 pub enum Schedule {
-    /// The words of the script from left to right; where the last is `finish`, then rounds to the end.
+    /// The words of the script from left to right; if the last is `finish` or `!drawn`, then rounds to the end.
     Given,
-    /// Rounds to the end: one event of each thread in the order of the blocks, until none has anything to do.
+    /// Rounds to the end: one event of each thread in the order of the blocks, until none has anything to do. If the last
+    /// word of the script is `!drawn`, the events of its words come first.
     RoundRobin,
     /// Threads drawn from this number, until none has anything to do or as many are drawn as the limit; then rounds to
-    /// the end.
+    /// the end. If the last word of the script is `!drawn`, the events of its words come first.
     Seeded(u64),
 }
 
@@ -43,7 +44,28 @@ impl Schedule {
 fn is_finish(word: &Word) -> bool
     ensures { result ≡ is_finish word.now }
 {
-    matches!(word, Word::Finish)
+    matches!(word, Word::Finish | Word::Drawn)
+}
+
+fn is_drawn(word: &Word) -> bool
+    ensures { result ≡ is_drawn word.now }
+{
+    matches!(word, Word::Drawn)
+}
+
+/// Whether a word gives events of a thread.
+pub(crate) fn is_events(word: &Word) -> bool
+    ensures { result ≡ is_events word.now }
+{
+    matches!(word, Word::Events(_, _))
+}
+
+/// Whether the last word is `!drawn`.
+pub(crate) fn ends_drawn(words: &[Word]) -> bool
+    ensures { result ≡ ends_drawn words.now }
+{
+    let count = words.len();
+    count > 0 && is_drawn(&words[count - 1])
 }
 
 fn has_finish(words: &[Word]) -> bool

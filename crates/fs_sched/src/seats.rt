@@ -6,9 +6,9 @@ ghost use Rattle.fs_sched.specs.Schedules.{generator_of, seats_from};
 use crate::schedule::Draws;
 use std::marker::Model;
 
-/// A number by which words are divided, seen as itself. Beside it stands how often it goes into the greatest `u64`: so a
-/// quotient is the upper half of a product (Robison, "N-Bit Unsigned Division via N-Bit Multiply-Add"; Lemire, Kaser and Kurz,
-/// "Faster Remainder by Direct Computation").
+/// A number by which words are divided, seen as itself. With it comes how often it goes into the greatest `u64`, so a
+/// quotient is the upper half of a product (Robison, "N-Bit Unsigned Division via N-Bit Multiply-Add"; Lemire, Kaser
+/// and Kurz, "Faster Remainder by Direct Computation").
 #[derive(Drop)]
 pub struct Divisor {
     number: u64,

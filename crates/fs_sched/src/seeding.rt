@@ -130,9 +130,10 @@ fn lines_of_script<Listener: Witness>(
     make_lines(alloc, &script, seed, runs, witness)
 }
 
-/// Reads a script to its end, runs it so many times, by the threads that are drawn from a number, the next one, and so
-/// on, has each run's journal checked, and writes a line for each: `seed`, the number, and the verdict. The answer is
-/// whether each is lawful, and by the clauses it is. All lines are made before the first byte is written. Whoever is told of progress hears of each run.
+/// Reads a script to its end, and runs it so many times, with the threads that are drawn from a number, the next one,
+/// and so on. It checks each run's journal, and writes a line for each: `seed`, the number, and the verdict. The answer
+/// is whether each is lawful, and by the clauses it is. All lines are made before the first byte is written. A listener
+/// for progress hears of each run.
 pub fn run_seeds<R: Source, W: Sink, Listener: Witness>(
     alloc: Global,
     reader: &mut R,

@@ -22,7 +22,7 @@ pub struct Ran {
     pub end: RunEnd,
 }
 
-/// Runs a script by a schedule, and tells a witness each moment of the run where it comes.
+/// Runs a script with a schedule, and reports each moment of the run to a witness when it comes.
 pub fn watch<W: Witness>(
     alloc: Global,
     script: &Script,

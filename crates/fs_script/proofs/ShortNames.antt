@@ -19,7 +19,7 @@ use Rattle.fs_words.specs.Headers.{script_header, announced}
 use Rattle.fs_script.specs.Script.{nothing_yet, is_thread, seat_named, with_call, new_thread, thread_line, new_call, call_line, block_line, with_word, new_events, events_word, is_star, timed_word, has_finish, schedule_word, schedule_line, schedule_from, blocks_from, announced_script, script_behind, script_of}
 use Rattle.fs_script.specs.declared.limits.TheConstants.{THREAD_LIMIT, EVENT_LIMIT}
 use Rattle.fs_script.specs.declared.script.Script.{Script}
-use Rattle.fs_script.specs.declared.script.Word.TheVariants.{Finish, Checkpoint}
+use Rattle.fs_script.specs.declared.script.Word.TheVariants.{Finish, Checkpoint, Drawn}
 use Rattle.fs_script.specs.Limits.{call_limit, calls_in, events_in}
 
 -- a call of these limits, with such paths
@@ -104,7 +104,8 @@ schedule_word_keeps : (s : Script) (word : words.Word) → ShortLists s → Keep
 unfolding schedule_word
 schedule_word_keeps s word h =
     else_keeps (has_finish s.words) _ _ (either_keeps (bytes_eq word (codes "finish")) (Ok (with_word s Finish)) _ h
-    (either_keeps (bytes_eq word (codes "!checkpoint")) (Ok (with_word s Checkpoint)) (timed_word s word (position is_star word)) h (timed_keeps s word (position is_star word) h)))
+    (either_keeps (bytes_eq word (codes "!checkpoint")) (Ok (with_word s Checkpoint)) _ h
+    (either_keeps (bytes_eq word (codes "!drawn")) (Ok (with_word s Drawn)) (timed_word s word (position is_star word)) h (timed_keeps s word (position is_star word) h))))
 
 schedule_keeps : (s : Script) (ws : List words.Word) → ShortLists s → Keeps (schedule_line s ws)
 schedule_keeps s [] h = h

@@ -20,7 +20,7 @@ use Rattle.fs_script.specs.TreeText.{tree_text}
 use Rattle.fs_text.specs.Journal.{entries_of}
 use Rattle.fs_script.specs.Journals.{journal_text, Read as Told, journal_of, start_of}
 use Rattle.fs_script.specs.declared.script.Script.{Script}
-use Rattle.fs_script.specs.declared.script.Word.TheVariants.{Events, Finish, Checkpoint}
+use Rattle.fs_script.specs.declared.script.Word.TheVariants.{Events, Finish, Checkpoint, Drawn}
 
 abbrev pub at : String → Key
 at text = names (codes text)
@@ -62,6 +62,10 @@ pub record ScriptFaults : Type 0 where
   pub timed_checkpoint : FaultOf "thread t\nschedule\n!checkpoint*1" 4 BadWord
   pub other_sign : FaultOf "thread t\nschedule\n!check" 4 BadWord
   pub checkpoint_after_finish : FaultOf "thread t\nschedule\nfinish !checkpoint" 4 BadWord
+  pub after_drawn : FaultOf "thread t\nschedule\n!drawn t" 4 BadWord
+  pub finish_after_drawn : FaultOf "thread t\nschedule\nt !drawn\nfinish" 5 BadWord
+  pub drawn_twice : FaultOf "thread t\nschedule\n!drawn !drawn" 4 BadWord
+  pub timed_drawn : FaultOf "thread t\nschedule\n!drawn*2" 4 BadWord
   pub thread_checkpoint : FaultOf "thread !checkpoint\n" 2 BadThread
   pub many_events : FaultOf "thread t\nschedule\nt*1000000 t" 4 TooLarge
   pub many_events_with_checkpoints : FaultOf "thread t\nschedule\n!checkpoint t*999999 !checkpoint t\nt" 5 TooLarge
@@ -94,6 +98,13 @@ pub record ScriptsRead : Type 0 where
         names = codes "t" ∷ [];
         lists = (Mkdir (at "/a") ∷ []) ∷ [];
         words = Checkpoint ∷ Events 0 1000000 ∷ Checkpoint ∷ Checkpoint ∷ Finish ∷ [];
+        limits = V1;
+      })
+  pub drawn_race : script "thread t\nmkdir /a\nschedule\nt*2 !checkpoint t !drawn\n"
+      ≡ Ok (record {
+        names = codes "t" ∷ [];
+        lists = (Mkdir (at "/a") ∷ []) ∷ [];
+        words = Events 0 2 ∷ Checkpoint ∷ Events 0 1 ∷ Drawn ∷ [];
         limits = V1;
       })
   pub empty_block : script "thread a_1\nthread b\nrmdir /%2Fx\nstat /%\nreaddir /\nread //f 0 18446744073709551615\nwrite /f 1 -\ntruncate /f 7\nschedule\nb a_1"

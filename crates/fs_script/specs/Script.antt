@@ -14,7 +14,7 @@ use Rattle.fs_words.specs.declared.fault.FaultKind.{FaultKind}
 use Rattle.fs_words.specs.declared.fault.FaultKind.TheVariants as kind
 use Rattle.fs_script.specs.declared.script.Script.{Script}
 use Rattle.fs_script.specs.declared.script.Word as schedule
-use Rattle.fs_script.specs.declared.script.Word.TheVariants.{Events, Finish, Checkpoint}
+use Rattle.fs_script.specs.declared.script.Word.TheVariants.{Events, Finish, Checkpoint, Drawn}
 use Rattle.fs_words.specs.Headers.{script_header, announced}
 use Rattle.fs_script.specs.Limits.{call_limit, calls_in, events_in}
 
@@ -103,20 +103,22 @@ abbrev pub timed_word : Script → Word → Option ℕ → Result Script FaultKi
 timed_word s word None = events_word s (seat_named s.names word) (Some 1)
 timed_word s word (Some at) = events_word s (seat_named s.names (take at word)) (number_of (drop (at + 1) word))
 
--- whether a word was `finish`
+-- whether a word was `finish` or `!drawn`
 abbrev pub has_finish : List schedule.Word → Bool
 has_finish [] = false
 has_finish (Events seat times ∷ words) = has_finish words
 has_finish (Finish ∷ words) = true
 has_finish (Checkpoint ∷ words) = has_finish words
+has_finish (Drawn ∷ words) = true
 
--- a word of the schedule: `finish`, behind which none stands, `!checkpoint`, or events of a thread
+-- a word of the schedule: `finish` or `!drawn`, after which there is none, `!checkpoint`, or events of a thread
 unfoldable pub schedule_word : Script → Word → Result Script FaultKind
 schedule_word s word =
     if has_finish s.words then Err kind.BadWord
     else (if bytes_eq word (codes "finish") then Ok (with_word s Finish)
     else (if bytes_eq word (codes "!checkpoint") then Ok (with_word s Checkpoint)
-    else timed_word s word (position is_star word)))
+    else (if bytes_eq word (codes "!drawn") then Ok (with_word s Drawn)
+    else timed_word s word (position is_star word))))
 
 -- a line of the schedule: its words, from left to right
 abbrev pub schedule_line : Script → List Word → Result Script FaultKind

@@ -4,7 +4,7 @@ ghost use Rattle.std.specs.Prelude.{Ok, ◌≡◌, ◌<◌, length, map, positio
 ghost use Rattle.std.specs.List.{list_all};
 ghost use Rattle.fs_script.specs.Limits.{calls_in, events_in};
 ghost use Rattle.fs_script.specs.Script.{nothing_yet, is_lower, is_thread_byte, is_thread, is_star, new_thread, thread_line, new_call, call_line, block_line, new_events, events_word, with_word, has_finish, schedule_word, schedule_line};
-ghost use Rattle.fs_script.specs.declared.script.Word.TheVariants.{Finish, Checkpoint};
+ghost use Rattle.fs_script.specs.declared.script.Word.TheVariants.{Finish, Checkpoint, Drawn};
 ghost use Rattle.fs_script.specs.code.Drafts.{line_in, step_in};
 ghost use Rattle.fs_words.specs.code.Answers.{Becomes};
 
@@ -19,7 +19,7 @@ use fs_words::recent::Recent;
 use fs_words::words::{number_of, parts};
 use std::alloc::Global;
 
-/// The script so far, with its counts of calls and events and whether it had `finish`.
+/// The script so far, with its counts of calls and events and whether it had `finish` or `!drawn`.
 #[derive(Drop)]
 pub(crate) struct Draft {
     pub(crate) script: Script,
@@ -218,6 +218,22 @@ impl Draft {
         script.words.push(Word::Checkpoint)
     }
 
+    #[tactic(auto, using(crate::proofs::LimitLemmas::events_drawn, crate::proofs::LimitLemmas::drawn_ends))]
+    fn push_drawn(&mut self) -> Result<(), FaultKind>
+        ensures { Becomes result self.new.script (Ok (with_word self.old.script Drawn)) }
+    {
+        let Draft {
+            script,
+            is_over,
+            ..
+        } = self;
+        if let Err(kind) = script.words.push(Word::Drawn) {
+            return Err(kind);
+        }
+        *is_over = true;
+        Ok(())
+    }
+
     #[tactic(auto, unfolding(crate::specs::Script::schedule_word))]
     fn take_word(&mut self, word: &[u8]) -> Result<(), FaultKind>
         ensures { Becomes result self.new.script (schedule_word self.old.script word.now) }
@@ -230,6 +246,9 @@ impl Draft {
         }
         if word == b"!checkpoint".as_slice() {
             return self.push_checkpoint();
+        }
+        if word == b"!drawn".as_slice() {
+            return self.push_drawn();
         }
         match star_in(word) {
             Some(at) => {
@@ -272,7 +291,7 @@ impl Draft {
         self.take_block_line(alloc, recent, words)
     }
 
-    /// Takes a line that is not passed over, behind the line `schedule` or before it. `words` lends its memory.
+    /// Takes a line that is not skipped, before or after the line `schedule`. `words` lends its memory.
     pub(crate) fn take_line<'a>(
         &mut self,
         alloc: Global,

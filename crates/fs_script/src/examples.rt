@@ -17,7 +17,7 @@ pub fn journals_written()
     ensures { JournalTexts }
 {}
 
-/// Journals that tell no start tree where they have to, with the line.
+/// Journals that have no start tree although they have to, with the line.
 pub fn start_faults()
     ensures { StartFaults }
 {}

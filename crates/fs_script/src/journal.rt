@@ -33,14 +33,14 @@ pub struct Journal {
     pub entries: Vec<Entry>,
 }
 
-/// What stands between the slashes of a path.
+/// What is between the slashes of a path.
 fn pieces(alloc: Global, path: &[u8]) -> Result<Vec<&[u8]>, AllocError>
     ensures { IfOk result (λ pieces. map (λ p. p.now) pieces.items ≡ slice_split is_slash path.now) }
 {
     path.split(|b| *b == b'/').collect(alloc)
 }
 
-/// The names behind the first piece.
+/// The names after the first piece.
 fn names_behind(alloc: Global, limits: Limits, pieces: &[&[u8]]) -> Result<Vec<Name>, FaultKind>
     ensures { Gives (λ names. names.items) result (names_at limits (behind_first (map (λ p. p.now) pieces.now))) }
 {
@@ -93,7 +93,7 @@ fn file_at(alloc: Global, limits: Limits, path: &[u8], bytes: &[u8]) -> Result<R
     }
 }
 
-/// The row that words could tell.
+/// The row that words could mean.
 #[tactic(auto, using(fs_words::proofs::ReadLemmas::fails_bind))]
 fn row_at(alloc: Global, limits: Limits, words: &[&[u8]]) -> Result<Row, FaultKind>
     ensures { Gives node_of_row result (node_at limits (map (λ w. w.now) words.now)) }
@@ -120,7 +120,7 @@ fn is_line_of(alloc: Global, line: &[u8], row: &Row) -> Result<bool, AllocError>
     Ok(is_word(line, &written))
 }
 
-/// The row that a line tells. `words` lends its memory.
+/// The row that a line means. `words` lends its memory.
 fn row_in<'a>(
     alloc: Global,
     limits: Limits,
@@ -143,7 +143,7 @@ fn row_in<'a>(
     }
 }
 
-/// The row that a line tells, where it tells one. `words` lends its memory.
+/// The row that a line means, if it means one. `words` lends its memory.
 fn told<'a>(
     alloc: Global,
     limits: Limits,
@@ -164,7 +164,8 @@ fn told<'a>(
 pub(crate) enum End {
     /// At the line `entries`.
     Entries,
-    /// At the line of this number, which tells no row; where no line is left, at that of the last one and one more.
+    /// At the line of this number, which is no row. If no line is left, the number is one more than that of the last
+    /// line.
     Wrong(u64),
 }
 
@@ -265,7 +266,7 @@ fn tree_of(
     }
 }
 
-/// The journal of the lines behind a start tree.
+/// The journal of the lines after a start tree.
 fn with_entries(
     alloc: Global,
     start: SeqTree,
@@ -284,7 +285,7 @@ fn with_entries(
     }
 }
 
-/// The journal of the lines behind the one of the root.
+/// The journal of the lines after the one of the root.
 fn behind_root(alloc: Global, limits: Limits, lines: Lines<'_>) -> Result<Journal, ScriptFault>
     ensures read { GivesText journal_seen result (started_from limits root_tree lines.entry.number lines.entry.lines) }
     ensures within { IfOk result (λ journal. IsWithinLimits journal.start.limits journal.start.tree) }
@@ -303,7 +304,7 @@ fn behind_root(alloc: Global, limits: Limits, lines: Lines<'_>) -> Result<Journa
     }
 }
 
-/// The journal of the lines behind a header that announces a start tree.
+/// The journal of the lines after a header that announces a start tree.
 fn started(alloc: Global, limits: Limits, lines: Lines<'_>) -> Result<Journal, ScriptFault>
     ensures read { GivesText journal_seen result (behind_line (codes "start") (behind_line (codes "dir /") (started_from limits root_tree)) lines.entry.number lines.entry.lines) }
     ensures within { IfOk result (λ journal. IsWithinLimits journal.start.limits journal.start.tree) }

@@ -17,7 +17,7 @@ use fs_seq::Row;
 use fs_words::Addition;
 use std::alloc::{AllocError, Global};
 
-/// The names of some steps, each behind a slash.
+/// The names of some steps, each after a slash.
 fn push_steps(alloc: Global, above: &[Step], line: &mut Addition) -> Result<(), AllocError>
     ensures ok { OnOk result (line.new.added ≡ line.old.added ++ flat_map (λ s. 47 ∷ escaped s.name) above.now) }
     ensures before { line.new.before ≡ line.old.before }
@@ -28,7 +28,7 @@ fn push_steps(alloc: Global, above: &[Step], line: &mut Addition) -> Result<(), 
     Ok(())
 }
 
-/// Some names, each behind a slash.
+/// Some names, each after a slash.
 #[tactic(auto, using(fs_text::proofs::FitLemmas::name_is))]
 fn push_names(alloc: Global, names: &[Name], line: &mut Addition) -> Result<(), AllocError>
     ensures ok { OnOk result (line.new.added ≡ line.old.added ++ flat_map (λ n. 47 ∷ escaped n) names.now) }
@@ -41,14 +41,14 @@ fn push_names(alloc: Global, names: &[Name], line: &mut Addition) -> Result<(), 
     Ok(())
 }
 
-/// Whether steps, and names behind theirs, are the key of the root.
+/// Whether steps, and names after theirs, are the key of the root.
 fn lead_nowhere(above: &[Step], names: &[Name]) -> bool
     ensures { result ≡ is_root (key_above above.now ++ names.now) }
 {
     above.is_empty() && names.is_empty()
 }
 
-/// The path of a key: names behind those of some steps.
+/// The path of a key: names after those of some steps.
 fn push_key(
     alloc: Global,
     above: &[Step],

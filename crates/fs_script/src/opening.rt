@@ -30,7 +30,7 @@ fn push_rows(alloc: Global, rows: &[Row], line: &mut Addition) -> Result<(), All
     Ok(())
 }
 
-/// Whether a journal tells a start tree of so many nodes.
+/// Whether a journal has the lines of a start tree of so many nodes.
 fn is_told(limits: Limits, nodes: usize) -> bool
     ensures { result ≡ is_told limits nodes }
 {
@@ -56,10 +56,11 @@ fn push_opening(alloc: Global, start: &SeqTree, line: &mut Addition) -> Result<(
     line.push(b"entries\n")
 }
 
-/// Appends what stands before the entries of a journal that starts at this tree: its header, and where the tree is more than
-/// the root alone or keeps another set of limits than the first, a line `start`, the lines of its nodes as in the text of a
-/// tree, and a line `entries`. An `Err`, which is out of memory, leaves the text as it was. The names and bytes that it
-/// writes are such that they are read back, where the names keep the limit of the tree.
+/// Appends what comes before the entries of a journal that starts at this tree. That is its header, and in some
+/// journals a line `start`, the lines of its nodes as in the text of a tree, and a line `entries`. These lines are
+/// there if the tree is more than the root alone, or keeps another set of limits than the first. An `Err`, which is out
+/// of memory, leaves the text as it was. The names and bytes that it writes are read back if the names keep the limit
+/// of the tree.
 pub fn write_opening(alloc: Global, start: &SeqTree, text: &mut Vec<u8>) -> Result<(), AllocError>
     ensures ok { OnOk result (text.new.items ≡ text.old.items ++ opening start.now) }
     ensures err { OnErr result (text.new.items ≡ text.old.items) }

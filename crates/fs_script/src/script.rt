@@ -34,6 +34,8 @@ pub enum Word {
     Finish,
     /// The journal begins again. It is no event of a thread.
     Checkpoint,
+    /// From here on the schedule of a run decides: the words before prepare it, and are played as they stand.
+    Drawn,
 }
 
 /// The names of threads, seen as their list, each once.

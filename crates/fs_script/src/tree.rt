@@ -24,8 +24,8 @@ pub(crate) struct Step {
     pub(crate) name: Name,
 }
 
-/// A walk through the nodes in the order of their keys. It stands at a directory, behind the entry `low`, whose node is
-/// `last`: so the next entry is found without a look at those before it.
+/// A walk through the nodes in the order of their keys. It is at a directory, after the entry `low`, whose node is
+/// `last`. So the next entry is found without a look at those before it.
 #[derive(Drop)]
 pub(crate) struct Walk {
     above: Vec<Step>,
@@ -52,7 +52,7 @@ fn copied(alloc: Global, store: &Store, file: NodeNo) -> Result<Vec<u8>, AllocEr
     Ok(bytes)
 }
 
-/// The line of a node behind some steps: of a file, where it has bytes, and else of a directory.
+/// The line of a node after some steps: of a file, if it has bytes, and else of a directory.
 fn push_line(
     alloc: Global,
     above: &[Step],

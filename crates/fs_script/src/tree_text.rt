@@ -95,7 +95,7 @@ fn first_fault(fault: ScriptFault, number: u64) -> ScriptFault
     }
 }
 
-/// The tree of these lines, which stand behind a line `tree`.
+/// The tree of these lines, which come after a line `tree`.
 fn tree_of_nodes(alloc: Global, nodes: &[u8], limits: Limits) -> Result<SeqTree, ScriptFault>
     ensures read { GivesText (λ start. start) result (nodes_read limits nodes.now) }
     ensures within { IfOk result (λ start. IsWithinLimits start.limits start.tree) }

@@ -1,4 +1,4 @@
-//! The calls that change nothing: what stands at a path.
+//! The calls that change nothing: they answer what is at a path.
 
 ghost use Rattle.std.specs.Prelude.{◌≡◌, ◌≢◌, ◌≤◌, length, Some, MatchResult, IfOk, OnOk, OnErr, IsTrue, min, map, take, drop};
 ghost use Rattle.std.specs.FinMap.{is_sorted};
@@ -89,7 +89,7 @@ pub fn readdir(
     }
 }
 
-/// The links of which a list tells the names: those above a path's last name, and no more than a count.
+/// The links whose names a list returns: those above a path's last name, and no more than a count.
 fn piece<'a>(links: &'a [Link], after: &Path, count: u32) -> &'a [Link]
     requires { IsTrue (is_sorted name_cmp (pairs links.now)) }
     ensures most { length result.now ≤ LIST_LIMIT }

@@ -1,4 +1,4 @@
-//! Renames: the entry of a node moves, and the node that stood at its new place goes.
+//! Renames: the entry of a node moves, and the node that was at its new place goes.
 
 ghost use Rattle.std.specs.Prelude.{◌≡◌, ◌≢◌, ◌<◌, ◌≤◌, Option, None, Some, IsTrue, IsSome, IfOk, OnOk, OnErr, length, remove, slice_get};
 ghost use Rattle.std.specs.FinMap.{find, put, is_sorted};
@@ -174,9 +174,9 @@ fn transfer(
     Ok(())
 }
 
-/// Renames a node, with all below it; the node that stood at the new path is removed. A rename costs no more than its
-/// two directories, and asks for memory only where no entry stands at the new path: where it adds one to another directory,
-/// or where the new name is long.
+/// Renames a node, with all below it; the node that was at the new path is removed. A rename costs no more than its two
+/// directories. It asks for memory only if no entry is at the new path, and then only if it adds one to another
+/// directory, or the new name is long.
 pub fn rename(
     alloc: Global,
     memory: &mut Memory,

@@ -60,7 +60,7 @@ impl SeqTree {
         }
     }
 
-    /// Each is a tree: the root is a directory, and all else stands in one.
+    /// Each is a tree: the root is a directory, and all else is in one.
     #[tactic(auto, using(crate::proofs::ForestTrees::forest_tree))]
     pub fn is_a_tree(&self)
         ensures { IsTree self.now.tree }
@@ -105,8 +105,8 @@ impl SeqTree {
         rows::rows(alloc, &self.nodes)
     }
 
-    /// The tree of these entries, which keeps these limits. `Bad` tells the first row that no tree within them has at its
-    /// place; where memory is wanted for a row in front of it, `OutOfMemory` is told.
+    /// The tree of these entries, which keeps these limits. `Bad` names the first row that no tree within them has at
+    /// its place. If memory runs out at an earlier row, the error is `OutOfMemory`.
     pub fn from_rows(alloc: Global, rows: &[Row], limits: Limits) -> Result<SeqTree, NotTree>
         ensures tree { IfOk result (λ tree. tree ≡ record { limits = limits; tree = map row_of rows.now }) }
         ensures fits { OnOk result (misfit limits rows.now ≡ None) }

@@ -148,7 +148,7 @@ impl<N: Named> Board<N> {
         core.begin(alloc, seat, call)
     }
 
-    /// One step of a seat's call, by `advance`; where the seat is not there, no call is under way on it.
+    /// One step of a seat's call, with `advance`. If the seat is not there, no call is pending on it.
     #[inline(always)]
     pub(crate) fn step(&mut self, seat: SeatNo) -> Stepped
         ensures published { self.new.published ≡ self.old.published }
@@ -164,7 +164,7 @@ impl<N: Named> Board<N> {
         advance(core, seat)
     }
 
-    /// An observer that was told nothing yet.
+    /// An observer that has seen nothing yet.
     pub(crate) fn observer<'a>(&mut self) -> Result<Observer<'a, N>, NoPlace>
         ensures same { self.new ≡ self.old }
         ensures first { IfOk result (λ o. o ≡ record { start = self.old.core.start; list = [] }) }
@@ -173,9 +173,9 @@ impl<N: Named> Board<N> {
         publisher.observer()
     }
 
-    /// Publishes each commit, and tells that list. It waits for observers that still read the tree that was shown before
-    /// the last. Out of memory the published list is what it was; those commits that were taken in are published by the
-    /// next that succeeds.
+    /// Publishes each commit, and answers a stamp of that list. It waits for observers that still read the tree that
+    /// was shown before the last. If memory runs out, the published list is what it was, and the next success publishes
+    /// those commits that were taken in.
     pub fn publish<R: Wait>(&mut self, rt: &R, alloc: Global) -> Option<Stamp<N>>
         ensures core { self.new.core ≡ self.old.core }
         ensures begins { IsPrefix self.new.published (commits self.new.core.timeline) }
@@ -187,7 +187,7 @@ impl<N: Named> Board<N> {
         publisher.publish(rt).ok()
     }
 
-    /// How many commits stand before that of a call, and a stamp of a list that holds the call, where the timeline's
+    /// How many commits come before that of a call, and a stamp of a list that holds the call, if the timeline's
     /// entries of its number are those of this call and reply.
     pub(crate) fn tell<R: Wait>(
         &mut self,
@@ -207,7 +207,7 @@ impl<N: Named> Board<N> {
         }
     }
 
-    /// A stamp of the list of no calls: it tells the tree at which the timeline starts.
+    /// A stamp of the list of no calls: it names the tree at which the timeline starts.
     pub(crate) fn first(&self) -> Stamp<N>
         ensures { result ≡ record { start = self.now.core.start; list = [] } }
     {

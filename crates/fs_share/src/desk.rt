@@ -38,7 +38,7 @@ pub(crate) struct Desk<N: Named> {
     pub book: Book<N>,
     pub rest: Share<N>,
     pub sleepers: Sleepers,
-    /// How many seats stood when the timeline began.
+    /// How many seats there were when the timeline began.
     pub before: usize,
     ghost counted: { returns board.core.timeline ≡ book.total },
     ghost earlier: { before ≤ length board.core.seats },

@@ -1,15 +1,16 @@
-//! A tree that threads share: one lock round the core, taken for one event at a time.
+//! A tree that threads share: one lock around the core, taken for one event at a time.
 //!
-//! A session has a seat of its own, and a call of it is one begin and steps, each under the lock. So whoever gets the lock
-//! finds a state of a run: the core's type keeps it. Contracts see the tree at which the timeline starts. `AtomFs::close`
-//! hands out a timeline that is lawful from there, with as many returns as the tallies of all sessions add up to, and a store
-//! that spells the tree that its commits play where every call has returned; `checkpoint` hands out the entries so far, and
-//! the tree goes on from where they lead. `Session::call_told` also publishes what has committed, and answers a stamp: the
-//! tree's observers show it once they learn it, and wait for nobody. A session that waits for a node sleeps, as `fs_wait` says.
+//! A session has a seat of its own, and a call of it is one begin and steps, each under the lock. The core's type keeps it in a state of a
+//! run, so whoever gets the lock finds one. Contracts see the tree at which the timeline starts. `AtomFs::close` hands out a timeline that
+//! is lawful from there, with as many returns as the tallies of all sessions add up to. If every call has returned, it also hands out a
+//! store that spells the tree that its commits play. `checkpoint` hands out the entries so far, and the tree goes on from where they lead.
+//! `Session::call_told` also publishes what has committed, and answers a stamp. Observers of the tree show that state once they learn the
+//! stamp, and wait for nobody. A session that waits for a node sleeps, as `fs_wait` says.
 //!
-//! Enter at `with_tree`, which opens a tree, does what an `Inside` says on it, and ends it; at `run_lists`, which plays each
-//! list by a worker; or at `AtomFs::open`, whose caller names the tree. What is counted is defined in `specs/Returns.antt`,
-//! when lists were played in `specs/Played.antt`, what a told call is told of in `specs/Boards.antt`. Of running threads no progress, fairness or end is claimed.
+//! Enter at `with_tree`, which opens a tree, does what an `Inside` says on it, and ends it. Or enter at `run_lists`, which plays each list
+//! with a worker, or at `AtomFs::open`, whose caller names the tree. `specs/Returns.antt` defines what is counted, `specs/Played.antt`
+//! when lists were played, and `specs/Boards.antt` what a published call learns. No progress, fairness or end is claimed of running
+//! threads.
 #![tactic(auto)]
 
 mod board;

@@ -22,9 +22,9 @@ pub struct Answer {
     pub reply: Reply,
 }
 
-/// An answer that can be handed on: how many commits stand before the call's own, and a stamp that tells a published list
-/// with the call. There is no stamp where no memory was left to publish; a later publishing then shows the call too, and
-/// `place` is that number all the same, where the timeline has the call's Commit, and else 0.
+/// An answer that can be handed on: how many commits come before the call's own, and a stamp of a published list with
+/// the call. If no memory was left to publish, there is no stamp; a later publishing then shows the call too. Even so
+/// `place` is that number if the timeline has the call's Commit, and else 0.
 #[derive(Drop)]
 pub struct Told<N: Named> {
     pub answer: Answer,
@@ -57,12 +57,12 @@ pub struct Tally<N: Named> {
 
 impl<'a, N: Named> Session<'a, N> {
     /// Begins a call and does its steps, one event under the core's lock at a time, until it returns. After each step
-    /// the lock is let go and the gate is called; where another call holds the node that is next, the session waits
-    /// until that node is free.
+    /// the lock is let go and the gate is called. If another call holds the next node, the session waits until that
+    /// node is free.
     ///
-    /// `OutOfMemory` and `Full` come from the begin: the tree, the timeline and the count are as they were, and the call may
-    /// be made again. `SeatBusy` comes where the core has not the session's seat, or a step finds no call under way on it;
-    /// behind such a step the call's Begin stays in the timeline. Neither is met.
+    /// `OutOfMemory` and `Full` come from the begin: the tree, the timeline and the count are as they were, and the
+    /// call may be made again. `SeatBusy` comes if the core does not have the session's seat, or a step finds no
+    /// pending call on it. After such a step the call's Begin stays in the timeline. Neither happens.
     pub fn call<R: Wait + Clock, G: Gate>(
         &mut self,
         rt: &R,

@@ -1,4 +1,4 @@
-//! What is compared before a call is told: its Commit, its Begin and its Return in the timeline.
+//! What is compared before a call is published: its Commit, its Begin and its Return in the timeline.
 
 ghost use Rattle.std.specs.Prelude.{◌≡◌, ◌<◌, Some, IsTrue, IfSome, length, slice_get};
 ghost use Rattle.fs_timeline.specs.Timeline.{commits};
@@ -27,7 +27,7 @@ fn is_return(entry: &Entry, number: CallNo, reply: &Reply) -> bool
     }
 }
 
-/// Where the Return of this call with this reply stands, if it does. It is looked for from the end, since it is new.
+/// Where the Return of this call with this reply is, if it is there. It is looked for from the end, since it is new.
 fn return_place(entries: &[Entry], number: CallNo, reply: &Reply) -> Option<usize>
     ensures { IfSome result (λ at. slice_get entries.now at ≡ Some (Return number reply.now)) }
 {
@@ -41,7 +41,7 @@ fn return_place(entries: &[Entry], number: CallNo, reply: &Reply) -> Option<usiz
     None
 }
 
-/// Where a call stands among the commits, if the timeline's Commit, Begin and Return of this number are those of this call
+/// Where a call is among the commits, if the timeline's Commit, Begin and Return of this number are those of this call
 /// and reply.
 pub(crate) fn told_place(core: &Core, number: CallNo, call: &Call, reply: &Reply) -> Option<usize>
     ensures { IfSome result (λ place. IsListed core.now.start (commits core.now.timeline) place call.now reply.now) }

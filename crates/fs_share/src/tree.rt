@@ -63,9 +63,10 @@ pub struct Closed {
 }
 
 impl<N: Named> AtomFs<N> {
-    /// A tree with the root alone, of these limits, under the name of this blank and this history. That it has no entry and no
-    /// session, and nothing published, stands at what this is made of (`Desk::open`), since no clause can name what a lock
-    /// keeps. The only error is out of memory. Most callers want `with_tree`, which asks for nothing.
+    /// A tree with the root alone, with these limits, under the name of this blank and this history. It has no entry
+    /// and no session, and has published nothing. The contract of what this is made of (`Desk::open`) says so, since no
+    /// clause can name what a lock keeps. The only error is out of memory. Most callers want `with_tree`, which asks
+    /// for nothing.
     pub fn open_with<R: Wait>(
         rt: &R,
         alloc: Global,
@@ -128,7 +129,7 @@ impl<N: Named> AtomFs<N> {
         })
     }
 
-    /// An observer that was told nothing yet. The error: none of the 64 reader places is free, or there is no memory.
+    /// An observer that has seen nothing yet. The error: none of the 64 reader places is free, or memory ran out.
     pub fn observer<R: Wait>(&self, rt: &R) -> Result<Observer<'_, N>, NoPlace>
         ensures list { IfOk result (λ observer. observer.list ≡ []) }
         ensures start { IfOk result (λ observer. observer.start ≡ self.now.start) }
@@ -189,7 +190,7 @@ impl<N: Named> AtomFs<N> {
         self.earlier
     }
 
-    /// A stamp of the list of no calls: it tells the tree at which the timeline starts.
+    /// A stamp of the list of no calls: it names the tree at which the timeline starts.
     pub fn first<R: Wait>(&self, rt: &R) -> Stamp<N>
         ensures list { result.list ≡ [] }
         ensures start { result.start ≡ self.now.start }
@@ -201,9 +202,9 @@ impl<N: Named> AtomFs<N> {
         first
     }
 
-    /// The timeline begins again at the tree that it has come to, under another name, and its entries so far are handed
-    /// out. Call numbers begin at 1 again; nodes and seats stay. The error hands back what came in, and nothing has
-    /// changed: `UnderWay` comes exactly where a call is under way, and is looked for before memory is.
+    /// Hands out the entries so far, and the timeline begins again, under another name, at the tree that it has come
+    /// to. Call numbers begin at 1 again; nodes and seats stay. The error hands back what came in, and nothing has
+    /// changed. `UnderWay` comes exactly if a call is pending, and is looked for before memory is.
     pub fn checkpoint<M: Named, R: Wait>(
         self,
         rt: &R,
@@ -235,7 +236,7 @@ impl<N: Named> AtomFs<N> {
     }
 
     /// The same as `checkpoint`, with a stamp of this tree handed in, and one of the new tree's list of no calls handed
-    /// out: the first tells from which tree the entries are lawful, the second that the new tree starts where they lead.
+    /// out. The first says from which tree the entries are lawful, the second that the new tree starts where they lead.
     pub fn checkpoint_told<M: Named, R: Wait>(
         self,
         rt: &R,
@@ -320,8 +321,9 @@ impl<N: Named> AtomFs<N> {
         closed
     }
 
-    /// The same, with a stamp of this tree handed in: what it tells, as that of a told call or of an observer does, is a
-    /// beginning of the calls that committed, where the answer is true. It is true of each stamp of this tree.
+    /// The same, with a stamp of this tree handed in, for example that of a published call or of an observer. If the
+    /// answer is true, the stamp's list is a beginning of the calls that committed. The answer is true for each stamp
+    /// of this tree.
     pub fn close_told<R: Wait>(
         self,
         rt: &R,

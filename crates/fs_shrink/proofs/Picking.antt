@@ -6,7 +6,7 @@ use Rattle.fs_calls.specs.declared.call.Call.{Call}
 use Rattle.fs_script.specs.Limits.{calls_in, events_in}
 use Rattle.fs_script.specs.Script.{with_call, has_finish}
 use Rattle.fs_script.specs.declared.script.Word.{Word}
-use Rattle.fs_script.specs.declared.script.Word.TheVariants.{Events, Finish, Checkpoint}
+use Rattle.fs_script.specs.declared.script.Word.TheVariants.{Events, Finish, Checkpoint, Drawn}
 use Rattle.fs_shrink.specs.Kept.{picked, kept_lists}
 
 -- ---- items
@@ -86,6 +86,7 @@ unfinished_picked (Events seat times ∷ ws) ks h = go (get_or ks 0 false) (unfi
     go true e = e
     go false e = e
 unfinished_picked (Finish ∷ ws) ks h = absurd (let z : ◌≡◌ {A = Bool} true false = h in cc)
+unfinished_picked (Drawn ∷ ws) ks h = absurd (let z : ◌≡◌ {A = Bool} true false = h in cc)
 unfinished_picked (Checkpoint ∷ ws) ks h = go (get_or ks 0 false) (unfinished_picked ws (drop 1 ks) h)
   where
     go : (b : Bool) → has_finish (picked ws (drop 1 ks)) ≡ false → has_finish (cond b (Checkpoint ∷ picked ws (drop 1 ks)) (picked ws (drop 1 ks))) ≡ false
@@ -107,3 +108,6 @@ events_fewer (Finish ∷ ws) ks =
 events_fewer (Checkpoint ∷ ws) ks =
     let h : events_in (picked ws (drop 1 ks)) ≤ events_in ws = events_fewer ws (drop 1 ks) in
     either_fewer (get_or ks 0 false) Checkpoint (picked ws (drop 1 ks)) (events_in ws) 0 h h
+events_fewer (Drawn ∷ ws) ks =
+    let h : events_in (picked ws (drop 1 ks)) ≤ events_in ws = events_fewer ws (drop 1 ks) in
+    either_fewer (get_or ks 0 false) Drawn (picked ws (drop 1 ks)) (events_in ws) 0 h h

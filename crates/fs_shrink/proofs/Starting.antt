@@ -1,6 +1,5 @@
 -- At first all calls and words stay.
 use Rattle.std.proofs.Common.{◌≡◌, ℕ, zero, suc, ◌+◌, ◌-◌, ◌≤◌, Bool, true, false, List, [], ◌∷◌, ◌++◌, length, take, drop, get_or, replicate, Option, Some, None, refl, sym, ap, subst, ◌∙◌, arith}
-use Rattle.std.specs.List.{list_all}
 use Rattle.std.proofs.lemmas.Bool.{and_parts, leb-true}
 use Rattle.std.proofs.lemmas.List.{drop-replicate, get_or-replicate, length-replicate, replicate-append-replicate}
 use Rattle.fs_calls.specs.declared.call.Call.{Call}
@@ -9,13 +8,13 @@ use Rattle.fs_script.specs.Script.{seat_named}
 use Rattle.fs_script.specs.declared.script.Script.{Script}
 use Rattle.fs_sched.specs.declared.schedule.Schedule.TheVariants.{Given}
 use Rattle.fs_find.specs.Finds.{RunHas}
-use Rattle.fs_find.specs.What.{is_place, is_there, has_calls, names_calls}
+use Rattle.fs_find.specs.What.{is_place, is_there, has_calls, clauses_name_calls, names_calls}
 use Rattle.fs_find.specs.declared.what.CallName.{CallName}
 use Rattle.fs_find.specs.declared.what.Condition.{Condition}
 use Rattle.fs_find.specs.declared.what.Condition.TheVariants.{Reply, Fails, Line, Helped, Waits, Before, Overlap}
 use Rattle.fs_find.specs.declared.what.Clause.{Clause}
 use Rattle.fs_shrink.specs.Kept.{picked, kept_lists, kept_script, items_in}
-use Rattle.fs_shrink.specs.Moves.{kept_count, calls_before, place_at, moved_call, moved_condition, moved}
+use Rattle.fs_shrink.specs.Moves.{kept_count, calls_before, place_at, moved_call, moved_condition, moved_clauses, moved}
 use Rattle.fs_shrink.specs.Shrinks.{IsShrunk}
 
 -- ---- the script
@@ -77,16 +76,23 @@ condition_whole script n (Overlap call other) h there =
     let both = and_parts (is_there script call) (is_there script other) there in
     ap (λ x. Overlap x (moved_call (replicate n true) script other)) (call_whole script n call h both.0) ∙ ap (Overlap call) (call_whole script n other h both.1)
 
-moved_whole : (script : Script) (n : ℕ) (what : List Clause) → calls_in script.lists ≤ n → names_calls script what ≡ true → moved (replicate n true) script what ≡ what
+clauses_whole : (script : Script) (n : ℕ) (clauses : List Clause) → calls_in script.lists ≤ n → clauses_name_calls script clauses ≡ true → moved_clauses (replicate n true) script clauses ≡ clauses
+clauses_whole script n [] h there = refl
+clauses_whole script n (clause ∷ clauses) h there =
+    let both = and_parts (has_calls script clause.condition) (clauses_name_calls script clauses) there in
+    ap (λ c. record clause { condition = c } ∷ moved_clauses (replicate n true) script clauses) (condition_whole script n clause.condition h both.0)
+    ∙ ap (λ cs. clause ∷ cs) (clauses_whole script n clauses h both.1)
+
+moved_whole : (script : Script) (n : ℕ) (what : List (List Clause)) → calls_in script.lists ≤ n → names_calls script what ≡ true → moved (replicate n true) script what ≡ what
 moved_whole script n [] h there = refl
-moved_whole script n (clause ∷ what) h there =
-    let both = and_parts (has_calls script clause.condition) (list_all (λ (c : Clause). has_calls script c.condition) what) there in
-    ap (λ c. record clause { condition = c } ∷ moved (replicate n true) script what) (condition_whole script n clause.condition h both.0)
-    ∙ ap (λ cs. clause ∷ cs) (moved_whole script n what h both.1)
+moved_whole script n (clauses ∷ what) h there =
+    let both = and_parts (clauses_name_calls script clauses) (names_calls script what) there in
+    ap (λ cs. cs ∷ moved (replicate n true) script what) (clauses_whole script n clauses h both.0)
+    ∙ ap (λ w. clauses ∷ w) (moved_whole script n what h both.1)
 
 -- ---- where nothing was cut yet
 
-pub all_stay : (script : Script) (what : List Clause) (kept : List Bool) → kept ≡ replicate (calls_in script.lists) true ++ replicate (length script.words) true → names_calls script what ≡ true → RunHas Given script what true → IsShrunk script what kept
+pub all_stay : (script : Script) (what : List (List Clause)) (kept : List Bool) → kept ≡ replicate (calls_in script.lists) true ++ replicate (length script.words) true → names_calls script what ≡ true → RunHas Given script what true → IsShrunk script what kept
 all_stay script what kept e there has =
     let n : ℕ = items_in script in
     let is : kept ≡ replicate n true = e ∙ replicate-append-replicate (calls_in script.lists) (length script.words) true in
@@ -94,5 +100,5 @@ all_stay script what kept e there has =
       sized = length-replicate n true;
       named = λ at less named. get_or-replicate n at true false (let l : length (replicate n true) ≡ n = length-replicate n true in omega (arith, less, l));
       has = subst (λ (s : Script). RunHas Given s (moved (replicate n true) script what) true) (sym (kept_whole script))
-          (subst (λ (w : List Clause). RunHas Given script w true) (sym (moved_whole script n what (omega arith) there)) has);
+          (subst (λ (w : List (List Clause)). RunHas Given script w true) (sym (moved_whole script n what (omega arith) there)) has);
     })

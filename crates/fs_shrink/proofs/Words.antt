@@ -22,7 +22,7 @@ use Rattle.fs_script.specs.Script.{is_lower, is_thread, is_star, seat_named, wit
 use Rattle.fs_script.specs.declared.limits.TheConstants.{EVENT_LIMIT}
 use Rattle.fs_script.specs.declared.script.Script.{Script}
 use Rattle.fs_script.specs.declared.script.Word.{Word}
-use Rattle.fs_script.specs.declared.script.Word.TheVariants.{Events, Finish, Checkpoint}
+use Rattle.fs_script.specs.declared.script.Word.TheVariants.{Events, Finish, Checkpoint, Drawn}
 use Rattle.fs_shrink.specs.Kept.{picked}
 use Rattle.fs_shrink.specs.code.Thinning.{read_words, spaced, line_of, words_thinned}
 use Rattle.fs_shrink.proofs.Picking.{picked_append, unfinished_picked, events_fewer}
@@ -113,9 +113,9 @@ events_again s t (Some seat) (Some n) e = go (nat_le 1 n && nat_le n EVENT_LIMIT
         }
 
 -- a word that is no mark
-by_star : (s : Script) (word : List ℕ) → has_finish s.words ≡ false → bytes_eq word (codes "finish") ≡ false → bytes_eq word (codes "!checkpoint") ≡ false → schedule_word s word ≡ timed_word s word (position is_star word)
+by_star : (s : Script) (word : List ℕ) → has_finish s.words ≡ false → bytes_eq word (codes "finish") ≡ false → bytes_eq word (codes "!checkpoint") ≡ false → bytes_eq word (codes "!drawn") ≡ false → schedule_word s word ≡ timed_word s word (position is_star word)
 unfolding schedule_word
-by_star s word unended other mark = cond-false _ _ _ unended ∙ cond-false _ _ _ other ∙ cond-false _ _ _ mark
+by_star s word unended other mark drawn = cond-false _ _ _ unended ∙ cond-false _ _ _ other ∙ cond-false _ _ _ mark ∙ cond-false _ _ _ drawn
 
 by_finish : (s : Script) (word : List ℕ) → has_finish s.words ≡ false → bytes_eq word (codes "finish") ≡ true → schedule_word s word ≡ Ok (with_word s Finish)
 unfolding schedule_word
@@ -125,28 +125,32 @@ by_checkpoint : (s : Script) (word : List ℕ) → has_finish s.words ≡ false 
 unfolding schedule_word
 by_checkpoint s word unended other mark = cond-false _ _ _ unended ∙ cond-false _ _ _ other ∙ cond-true _ _ _ mark
 
+by_drawn : (s : Script) (word : List ℕ) → has_finish s.words ≡ false → bytes_eq word (codes "finish") ≡ false → bytes_eq word (codes "!checkpoint") ≡ false → bytes_eq word (codes "!drawn") ≡ true → schedule_word s word ≡ Ok (with_word s Drawn)
+unfolding schedule_word
+by_drawn s word unended other mark drawn = cond-false _ _ _ unended ∙ cond-false _ _ _ other ∙ cond-false _ _ _ mark ∙ cond-true _ _ _ drawn
+
 behind_finish : (s : Script) (word : List ℕ) → has_finish s.words ≡ true → schedule_word s word ≡ Err kind.BadWord
 unfolding schedule_word
 behind_finish s word ended = cond-true _ _ _ ended
 
-timed_again : (s t : Script) (text : words.Word) → AreThreads s.names → has_finish s.words ≡ false → bytes_eq text (codes "finish") ≡ false → bytes_eq text (codes "!checkpoint") ≡ false → (star : Option ℕ) → position is_star text ≡ star → timed_word s text star ≡ Ok t → IsAgain s text t
-timed_again s t text are unended other mark None at e =
+timed_again : (s t : Script) (text : words.Word) → AreThreads s.names → has_finish s.words ≡ false → bytes_eq text (codes "finish") ≡ false → bytes_eq text (codes "!checkpoint") ≡ false → bytes_eq text (codes "!drawn") ≡ false → (star : Option ℕ) → position is_star text ≡ star → timed_word s text star ≡ Ok t → IsAgain s text t
+timed_again s t text are unended other mark drawn None at e =
     let a = events_again s t (seat_named s.names text) (Some 1) e in
     record {
       word = a.word;
       is = a.is;
-      again = λ u names unended few. by_star u text unended other mark ∙ ap (timed_word u text) at ∙ ap (λ ns. events_word u (seat_named ns text) (Some 1)) names ∙ a.again u few;
+      again = λ u names unended few. by_star u text unended other mark drawn ∙ ap (timed_word u text) at ∙ ap (λ ns. events_word u (seat_named ns text) (Some 1)) names ∙ a.again u few;
       unended = unended;
       shown = seat_shown s.names text a.of are a.there;
     }
-timed_again s t text are unended other mark (Some star) at e =
+timed_again s t text are unended other mark drawn (Some star) at e =
     let name : List ℕ = take star text in
     let times : Option ℕ = number_of (drop (star + 1) text) in
     let a = events_again s t (seat_named s.names name) times e in
     record {
       word = a.word;
       is = a.is;
-      again = λ u names unended few. by_star u text unended other mark ∙ ap (timed_word u text) at ∙ ap (λ ns. events_word u (seat_named ns name) times) names ∙ a.again u few;
+      again = λ u names unended few. by_star u text unended other mark drawn ∙ ap (timed_word u text) at ∙ ap (λ ns. events_word u (seat_named ns name) times) names ∙ a.again u few;
       unended = unended;
       shown = front_shown text star (seat_shown s.names name a.of are a.there);
     }
@@ -155,11 +159,11 @@ mark_shown : (text mark : List ℕ) → bytes_eq text mark ≡ true → is_passe
 mark_shown text mark e shown = ap is_passed_over ((bytes_eq-Decides text mark).0 e) ∙ shown
 
 pub word_again : (s t : Script) (text : words.Word) → AreThreads s.names → schedule_word s text ≡ Ok t → IsAgain s text t
-word_again s t text are e = go (has_finish s.words) (bytes_eq text (codes "finish")) (bytes_eq text (codes "!checkpoint")) refl refl refl
+word_again s t text are e = go (has_finish s.words) (bytes_eq text (codes "finish")) (bytes_eq text (codes "!checkpoint")) (bytes_eq text (codes "!drawn")) refl refl refl refl
   where
-    go : (b f m : Bool) → has_finish s.words ≡ b → bytes_eq text (codes "finish") ≡ f → bytes_eq text (codes "!checkpoint") ≡ m → IsAgain s text t
-    go true f m unended other mark = absurd (no_ok kind.BadWord t (sym (behind_finish s text unended) ∙ e))
-    go false true m unended other mark =
+    go : (b f m d : Bool) → has_finish s.words ≡ b → bytes_eq text (codes "finish") ≡ f → bytes_eq text (codes "!checkpoint") ≡ m → bytes_eq text (codes "!drawn") ≡ d → IsAgain s text t
+    go true f m d unended other mark drawn = absurd (no_ok kind.BadWord t (sym (behind_finish s text unended) ∙ e))
+    go false true m d unended other mark drawn =
         record {
           word = Finish;
           is = sym (ok_same _ _ (sym (by_finish s text unended other) ∙ e));
@@ -167,7 +171,7 @@ word_again s t text are e = go (has_finish s.words) (bytes_eq text (codes "finis
           unended = unended;
           shown = mark_shown text (codes "finish") other refl;
         }
-    go false false true unended other mark =
+    go false false true d unended other mark drawn =
         record {
           word = Checkpoint;
           is = sym (ok_same _ _ (sym (by_checkpoint s text unended other mark) ∙ e));
@@ -175,7 +179,15 @@ word_again s t text are e = go (has_finish s.words) (bytes_eq text (codes "finis
           unended = unended;
           shown = mark_shown text (codes "!checkpoint") mark refl;
         }
-    go false false false unended other mark = timed_again s t text are unended other mark (position is_star text) refl (sym (by_star s text unended other mark) ∙ e)
+    go false false false true unended other mark drawn =
+        record {
+          word = Drawn;
+          is = sym (ok_same _ _ (sym (by_drawn s text unended other mark drawn) ∙ e));
+          again = λ u names unended few. by_drawn u text unended other mark drawn;
+          unended = unended;
+          shown = mark_shown text (codes "!drawn") drawn refl;
+        }
+    go false false false false unended other mark drawn = timed_again s t text are unended other mark drawn (position is_star text) refl (sym (by_star s text unended other mark drawn) ∙ e)
 
 -- ---- the words of a line
 

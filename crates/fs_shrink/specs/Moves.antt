@@ -42,9 +42,12 @@ moved_condition kept script (Overlap call other) = Overlap (moved_call kept scri
 abbrev pub moved_clause : List Bool → Script → Clause → Clause
 moved_clause kept script clause = record clause { condition = moved_condition kept script clause.condition }
 
+abbrev pub moved_clauses : List Bool → Script → List Clause → List Clause
+moved_clauses kept script clauses = map (moved_clause kept script) clauses
+
 -- what is said, with its calls by their new places
-abbrev pub moved : List Bool → Script → List Clause → List Clause
-moved kept script what = map (moved_clause kept script) what
+abbrev pub moved : List Bool → Script → List (List Clause) → List (List Clause)
+moved kept script what = map (moved_clauses kept script) what
 
 -- ---- which calls are named
 
@@ -71,6 +74,10 @@ is_named_by script at (Waits call) = is_call script at call
 is_named_by script at (Before call other) = is_call script at call || is_call script at other
 is_named_by script at (Overlap call other) = is_call script at call || is_call script at other
 
+-- of one that a clause names
+abbrev pub is_named_in : Script → ℕ → List Clause → Bool
+is_named_in script at clauses = list_any (λ (clause : Clause). is_named_by script at clause.condition) clauses
+
 -- of one that is named
-abbrev pub is_named : Script → List Clause → ℕ → Bool
-is_named script what at = list_any (λ (clause : Clause). is_named_by script at clause.condition) what
+abbrev pub is_named : Script → List (List Clause) → ℕ → Bool
+is_named script what at = list_any (is_named_in script at) what

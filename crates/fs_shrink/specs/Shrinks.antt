@@ -16,26 +16,26 @@ use Rattle.fs_shrink.specs.declared.shrinking.Shrunk.{Shrunk}
 use Rattle.fs_shrink.specs.declared.limits.TheConstants.{TRIAL_LIMIT}
 
 -- the run of a script by its own words has what is said; or it has not, or there is no such run, as it comes to a checkpoint while calls are under way
-abbrev pub IsTried : Script → List Clause → Bool → Type 0
+abbrev pub IsTried : Script → List (List Clause) → Bool → Type 0
 IsTried script what true = RunHas Given script what true
 IsTried script what false = RunHas Given script what false ⊎ ((c : ℕ) × StopsBy Given script (UnderWay c))
 
 -- the same of the script with those of its calls and words that stay, where what is said names its calls by their new places
-abbrev pub IsKept : Script → List Clause → List Bool → Bool → Type 0
+abbrev pub IsKept : Script → List (List Clause) → List Bool → Bool → Type 0
 IsKept script what kept b = IsTried (kept_script kept script) (moved kept script what) b
 
 -- flags of the calls and words of a script: the calls that are named stay, and the script has what is said
-pub record IsShrunk (script : Script) (what : List Clause) (kept : List Bool) : Type 0 where
+pub record IsShrunk (script : Script) (what : List (List Clause)) (kept : List Bool) : Type 0 where
   pub sized : length kept ≡ items_in script
   pub named : (at : ℕ) → at < length kept → is_named script what at ≡ true → get_or kept at false ≡ true
   pub has : IsKept script what kept true
 
 -- of those that stay no call that is not named, and no word, can go
-abbrev pub IsSmallest : Script → List Clause → List Bool → Type 0
+abbrev pub IsSmallest : Script → List (List Clause) → List Bool → Type 0
 IsSmallest script what kept = (at : ℕ) → get_or kept at false ≡ true → is_named script what at ≡ false → IsKept script what (slice_set kept at false) false
 
 -- what was made of a script by its flags: it is read back as the script with what stays, of which so much is told
-pub record IsMade (script : Script) (what : List Clause) (kept : List Bool) (shrunk : Shrunk) (text : List ℕ) : Type 0 where
+pub record IsMade (script : Script) (what : List (List Clause)) (kept : List Bool) (shrunk : Shrunk) (text : List ℕ) : Type 0 where
   pub stays : IsShrunk script what kept
   pub read : script_of text ≡ Ok (kept_script kept script)
   pub calls : shrunk.calls ≡ calls_in (kept_script kept script).lists
@@ -45,10 +45,10 @@ pub record IsMade (script : Script) (what : List Clause) (kept : List Bool) (shr
   pub stopped : shrunk.is_smallest ≡ false → shrunk.runs ≡ TRIAL_LIMIT
 
 -- what is made of a script: nothing where its run has not what is said
-abbrev pub IsShrinking : Script → List Clause → Option Shrunk → List ℕ → Type 0
+abbrev pub IsShrinking : Script → List (List Clause) → Option Shrunk → List ℕ → Type 0
 IsShrinking script what None text = RunHas Given script what false × (text ≡ [])
 IsShrinking script what (Some shrunk) text = (kept : List Bool) × IsMade script what kept shrunk text
 
 -- the same of the script that an input has
-abbrev pub IsShrinkingOf : List Clause → List ℕ → Option Shrunk → List ℕ → Type 0
+abbrev pub IsShrinkingOf : List (List Clause) → List ℕ → Option Shrunk → List ℕ → Type 0
 IsShrinkingOf what input end text = (script : Script) × (script_of input ≡ Ok script) × (names_calls script what ≡ true) × IsShrinking script what end text

@@ -28,6 +28,15 @@ abbrev pub more_text : List Clause → List ℕ
 more_text clauses = flat_map (λ (clause : Clause). codes " and " ++ clause_text clause) clauses
 
 -- the same of all, but for the first
-abbrev pub what_text : List Clause → List ℕ
+abbrev pub clauses_text : List Clause → List ℕ
+clauses_text [] = []
+clauses_text (clause ∷ more) = clause_text clause ++ more_text more
+
+-- alternatives, each behind the word `or`
+abbrev pub others_text : List (List Clause) → List ℕ
+others_text what = flat_map (λ (clauses : List Clause). codes " or " ++ clauses_text clauses) what
+
+-- the same of all, but for the first
+abbrev pub what_text : List (List Clause) → List ℕ
 what_text [] = []
-what_text (clause ∷ more) = clause_text clause ++ more_text more
+what_text (clauses ∷ more) = clauses_text clauses ++ others_text more

@@ -14,7 +14,7 @@ use crate::moving::is_named;
 use crate::room::NoRoom;
 use crate::thinning::flags_behind;
 use crate::trying::is_kept;
-use fs_find::Clause;
+use fs_find::Clauses;
 use fs_script::Script;
 use std::alloc::{AllocError, Global};
 
@@ -33,7 +33,7 @@ pub(crate) enum Pass {
 fn without(
     alloc: Global,
     script: &Script,
-    what: &[Clause],
+    what: &[Clauses],
     kept: &[bool],
     from: usize,
     end: usize,
@@ -73,7 +73,7 @@ fn cut_range(
     alloc: Global,
     text: &[u8],
     script: &Script,
-    what: &[Clause],
+    what: &[Clauses],
     from: usize,
     size: usize,
     kept: &mut Vec<bool>,
@@ -107,7 +107,7 @@ fn cut_pieces(
     alloc: Global,
     text: &[u8],
     script: &Script,
-    what: &[Clause],
+    what: &[Clauses],
     size: usize,
     kept: &mut Vec<bool>,
     runs: &mut u64,
@@ -134,7 +134,7 @@ pub(crate) fn cut_by_halves(
     alloc: Global,
     text: &[u8],
     script: &Script,
-    what: &[Clause],
+    what: &[Clauses],
     kept: &mut Vec<bool>,
     runs: &mut u64,
 ) -> Result<(), NoRoom>
@@ -165,7 +165,7 @@ fn cut_one(
     alloc: Global,
     text: &[u8],
     script: &Script,
-    what: &[Clause],
+    what: &[Clauses],
     at: usize,
     kept: &mut Vec<bool>,
 ) -> Result<bool, NoRoom>
@@ -190,7 +190,7 @@ fn cut_one(
 }
 
 /// Whether a flag stands for something that may go.
-fn may_go(script: &Script, what: &[Clause], kept: &[bool], at: usize) -> bool
+fn may_go(script: &Script, what: &[Clauses], kept: &[bool], at: usize) -> bool
     requires few { calls_in script.now.lists ≤ call_limit script.now.limits }
     requires there { at < length kept.now }
     ensures stays { result ≡ true → get_or kept.now at false ≡ true }
@@ -212,7 +212,7 @@ fn cut_each(
     alloc: Global,
     text: &[u8],
     script: &Script,
-    what: &[Clause],
+    what: &[Clauses],
     kept: &mut Vec<bool>,
     runs: &mut u64,
 ) -> Result<Pass, NoRoom>
@@ -243,7 +243,7 @@ pub(crate) fn cut_ones(
     alloc: Global,
     text: &[u8],
     script: &Script,
-    what: &[Clause],
+    what: &[Clauses],
     kept: &mut Vec<bool>,
     runs: &mut u64,
 ) -> Result<bool, NoRoom>

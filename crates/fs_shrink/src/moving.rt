@@ -4,11 +4,11 @@ ghost use Rattle.std.specs.Prelude.{◌≡◌, ◌≤◌, ◌+◌, ◌<◌, ◌^
 ghost use Rattle.std.specs.List.{list_any};
 ghost use Rattle.fs_script.specs.Limits.{call_limit, calls_in};
 ghost use Rattle.fs_script.specs.declared.limits.TheConstants.{CALL_LIMIT};
-ghost use Rattle.fs_shrink.specs.Moves.{calls_before, index_at, is_call, is_index, is_named, is_named_by, kept_count, moved, moved_call, moved_clause, moved_condition, place_at};
+ghost use Rattle.fs_shrink.specs.Moves.{calls_before, index_at, is_call, is_index, is_named, is_named_by, is_named_in, kept_count, moved, moved_call, moved_clause, moved_clauses, moved_condition, place_at};
 
 use crate::thinning::{first_flag, flags_behind};
 use fs_calls::Call;
-use fs_find::{CallName, Clause, Condition, copy_of_reply};
+use fs_find::{CallName, Clause, Clauses, Condition, copy_of_reply};
 use fs_script::{CallLists, Script};
 use std::alloc::{AllocError, Global};
 
@@ -115,21 +115,37 @@ fn moved_clause(
     })
 }
 
+fn moved_clauses(
+    alloc: Global,
+    kept: &[bool],
+    script: &Script,
+    clauses: &[Clause],
+) -> Result<Clauses, AllocError>
+    requires { calls_in script.now.lists ≤ call_limit script.now.limits }
+    ensures { IfOk result (λ moved. moved ≡ moved_clauses kept.now script.now clauses.now) }
+{
+    let mut moved = Vec::new(alloc);
+    for clause in clauses {
+        moved.push(moved_clause(alloc, kept, script, clause)?)?;
+    }
+    Ok(Clauses::new(moved))
+}
+
 /// What is said, with its calls by their new places.
 pub(crate) fn moved(
     alloc: Global,
     kept: &[bool],
     script: &Script,
-    what: &[Clause],
-) -> Result<Vec<Clause>, AllocError>
+    what: &[Clauses],
+) -> Result<Vec<Clauses>, AllocError>
     requires { calls_in script.now.lists ≤ call_limit script.now.limits }
-    ensures { IfOk result (λ clauses. clauses.items ≡ moved kept.now script.now what.now) }
+    ensures { IfOk result (λ all. all.items ≡ moved kept.now script.now what.now) }
 {
-    let mut clauses = Vec::new(alloc);
-    for clause in what {
-        clauses.push(moved_clause(alloc, kept, script, clause)?)?;
+    let mut moved = Vec::new(alloc);
+    for clauses in what {
+        moved.push(moved_clauses(alloc, kept, script, clauses.as_slice())?)?;
     }
-    Ok(clauses)
+    Ok(moved)
 }
 
 /// Whether a place in the block on a seat is that of the call with this index among all.
@@ -171,13 +187,26 @@ fn is_named_by(script: &Script, at: usize, condition: &Condition) -> bool
     }
 }
 
+/// Whether one of these clauses names the call with this index.
+fn is_named_in(script: &Script, at: usize, clauses: &[Clause]) -> bool
+    requires { calls_in script.now.lists ≤ call_limit script.now.limits }
+    ensures { result ≡ is_named_in script.now at clauses.now }
+{
+    for clause in clauses {
+        if is_named_by(script, at, &clause.condition) {
+            return true;
+        }
+    }
+    false
+}
+
 /// Whether the call with this index is named.
-pub(crate) fn is_named(script: &Script, what: &[Clause], at: usize) -> bool
+pub(crate) fn is_named(script: &Script, what: &[Clauses], at: usize) -> bool
     requires { calls_in script.now.lists ≤ call_limit script.now.limits }
     ensures { result ≡ is_named script.now what.now at }
 {
-    for clause in what {
-        if is_named_by(script, at, &clause.condition) {
+    for clauses in what {
+        if is_named_in(script, at, clauses.as_slice()) {
             return true;
         }
     }

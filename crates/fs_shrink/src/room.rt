@@ -31,7 +31,7 @@ impl From<AllocError> for NoRoom {
 impl NoRoom {
     /// The same as a fault of a search.
     pub(crate) fn fault(self) -> FindFault
-        ensures { (what : List Clause) (input : List ℕ) → IsFaultOfShrink what input result }
+        ensures { (what : List (List Clause)) (input : List ℕ) → IsFaultOfShrink what input result }
     {
         match self {
             NoRoom::OutOfMemory => {

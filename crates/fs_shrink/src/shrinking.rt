@@ -23,7 +23,7 @@ use crate::moving::{calls_before, moved};
 use crate::room::NoRoom;
 use crate::telling::what_text;
 use crate::trying::{script_with, text_of};
-use fs_find::{Clause, FindFault, names_calls, run_has};
+use fs_find::{Clauses, FindFault, names_calls, run_has};
 use fs_io::{Made, Sink, Source, transform};
 use fs_sched::{RunFault, Schedule, between, script_in};
 use fs_script::{CallLists, Script};
@@ -78,7 +78,7 @@ fn all_flags(alloc: Global, script: &Script) -> Result<Vec<bool>, AllocError>
 fn said_of(
     alloc: Global,
     script: &Script,
-    what: &[Clause],
+    what: &[Clauses],
     kept: &[bool],
 ) -> Result<Vec<u8>, AllocError>
     requires { calls_in script.now.lists ≤ call_limit script.now.limits }
@@ -93,7 +93,7 @@ fn with_what_stays(
     alloc: Global,
     text: &[u8],
     script: &Script,
-    what: &[Clause],
+    what: &[Clauses],
     kept: &[bool],
     runs: u64,
     is_smallest: bool,
@@ -126,7 +126,7 @@ fn shrunk_from(
     alloc: Global,
     text: &[u8],
     script: &Script,
-    what: &[Clause],
+    what: &[Clauses],
     kept: &mut Vec<bool>,
 ) -> Result<Made<Option<Shrunk>>, NoRoom>
     requires read { script_of text.now ≡ Ok script.now }
@@ -153,7 +153,7 @@ fn smallest(
     alloc: Global,
     text: &[u8],
     script: &Script,
-    what: &[Clause],
+    what: &[Clauses],
 ) -> Result<Made<Option<Shrunk>>, NoRoom>
     requires read { script_of text.now ≡ Ok script.now }
     requires few { calls_in script.now.lists ≤ call_limit script.now.limits }
@@ -170,7 +170,7 @@ fn shrink(
     alloc: Global,
     text: &[u8],
     script: &Script,
-    what: &[Clause],
+    what: &[Clauses],
 ) -> Result<Made<Option<Shrunk>>, FindFault>
     requires read { script_of text.now ≡ Ok script.now }
     requires few { calls_in script.now.lists ≤ call_limit script.now.limits }
@@ -192,7 +192,11 @@ fn shrink(
 }
 
 /// The same of the script that a text has.
-fn shrunk_in(alloc: Global, text: &[u8], what: &[Clause]) -> Result<Made<Option<Shrunk>>, FindFault>
+fn shrunk_in(
+    alloc: Global,
+    text: &[u8],
+    what: &[Clauses],
+) -> Result<Made<Option<Shrunk>>, FindFault>
     ensures { MakesShrinking what.now text.now result }
 {
     let script = script_in(alloc, text)?;
@@ -210,7 +214,7 @@ pub fn shrink_script<R: Source, W: Sink>(
     alloc: Global,
     reader: &mut R,
     writer: &mut W,
-    what: &[Clause],
+    what: &[Clauses],
 ) -> Result<Option<Shrunk>, FindFault>
     requires reads { R.failures reader.old < 2 ^ 64 - 1 }
     requires writes { W.failures writer.old < 2 ^ 64 - 1 }

@@ -3,10 +3,10 @@
 ghost use Rattle.std.specs.Prelude.{◌≡◌, ◌++◌, IfOk, OnOk, codes, [], if◌then◌else◌};
 ghost use Rattle.std.specs.List.{join_with_byte};
 ghost use Rattle.fs_text.specs.Journal.{reply_words};
-ghost use Rattle.fs_shrink.specs.Telling.{call_text, clause_text, condition_text, more_text, what_text};
+ghost use Rattle.fs_shrink.specs.Telling.{call_text, clause_text, clauses_text, condition_text, more_text, others_text, what_text};
 
 use fs_calls::Reply;
-use fs_find::{CallName, Clause, Condition};
+use fs_find::{CallName, Clause, Clauses, Condition};
 use fs_text::write_reply;
 use fs_words::Addition;
 use std::alloc::{AllocError, Global};
@@ -102,14 +102,38 @@ fn push_more(alloc: Global, clauses: &[Clause], text: &mut Addition) -> Result<(
     Ok(())
 }
 
+/// Clauses with the word `and` between two.
+fn push_clauses(alloc: Global, clauses: &[Clause], text: &mut Addition) -> Result<(), AllocError>
+    ensures added { OnOk result (text.new.added ≡ text.old.added ++ clauses_text clauses.now) }
+    ensures before { text.new.before ≡ text.old.before }
+{
+    if let [first, more @ ..] = clauses {
+        push_clause(alloc, first, text)?;
+        push_more(alloc, more, text)?;
+    }
+    Ok(())
+}
+
+/// Alternatives, each behind the word `or`.
+fn push_others(alloc: Global, what: &[Clauses], text: &mut Addition) -> Result<(), AllocError>
+    ensures added { OnOk result (text.new.added ≡ text.old.added ++ others_text what.now) }
+    ensures before { text.new.before ≡ text.old.before }
+{
+    for clauses in what {
+        text.push(b" or ")?;
+        push_clauses(alloc, clauses.as_slice(), text)?;
+    }
+    Ok(())
+}
+
 /// The text of what is said, as `read_what` of `fs_find` reads it.
-pub(crate) fn what_text(alloc: Global, what: &[Clause]) -> Result<Vec<u8>, AllocError>
+pub(crate) fn what_text(alloc: Global, what: &[Clauses]) -> Result<Vec<u8>, AllocError>
     ensures { IfOk result (λ text. text.items ≡ what_text what.now) }
 {
     let mut text = Addition::new(Vec::new(alloc));
     if let [first, more @ ..] = what {
-        push_clause(alloc, first, &mut text)?;
-        push_more(alloc, more, &mut text)?;
+        push_clauses(alloc, first.as_slice(), &mut text)?;
+        push_others(alloc, more, &mut text)?;
     }
     Ok(text.kept())
 }

@@ -13,7 +13,7 @@ ghost use Rattle.fs_shrink.specs.code.Thinning.{thinned};
 use crate::moving::moved;
 use crate::room::NoRoom;
 use crate::thinning::thin;
-use fs_find::{Clause, run_has};
+use fs_find::{Clauses, run_has};
 use fs_sched::{RunFault, Schedule, script_in};
 use fs_script::Script;
 use fs_words::headers::is_too_long;
@@ -52,7 +52,7 @@ pub(crate) fn script_with(alloc: Global, text: &[u8], kept: &[bool]) -> Result<S
 }
 
 /// Whether the run of a script by its own words has what is said; it has not where there is no such run.
-fn is_tried(alloc: Global, script: &Script, what: &[Clause]) -> Result<bool, NoRoom>
+fn is_tried(alloc: Global, script: &Script, what: &[Clauses]) -> Result<bool, NoRoom>
     requires { calls_in script.now.lists ≤ call_limit script.now.limits }
     ensures { IfOk result (IsTried script.now what.now) }
 {
@@ -69,7 +69,7 @@ pub(crate) fn is_kept(
     alloc: Global,
     text: &[u8],
     script: &Script,
-    what: &[Clause],
+    what: &[Clauses],
     kept: &[bool],
 ) -> Result<bool, NoRoom>
     requires read { script_of text.now ≡ Ok script.now }

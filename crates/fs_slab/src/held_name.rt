@@ -51,7 +51,7 @@ impl HeldName {
         *self.name = name;
     }
 
-    /// How it stands to a name in byte order.
+    /// How it compares with a name in byte order.
     pub fn cmp(&self, name: &Name) -> Ordering
         ensures { result ≡ name_cmp self.now name.now }
     {

@@ -1,13 +1,13 @@
 //! The nodes of a sequential tree, in a slab: directories with their entries in byte order, and files (`fs_blocks`).
 //!
-//! A node has a number, and an entry leads to the number of its node. `nodes::resolve` follows names from the root, and
-//! `nodes::look_up` finds the entry at a path, or the place where it belongs; the errors are those of `fs_calls`. Entries
-//! come and go one at a time, and all else stays. `copying` makes the same nodes again; files in blocks then share these.
+//! A node has a number, and an entry leads to the number of its node. `nodes::resolve` follows names from the root, and `nodes::look_up`
+//! finds the entry at a path, or the place where it belongs. The errors are those of `fs_calls`. Entries come and go one at a time, and
+//! all else stays. `copying` makes the same nodes again; files in blocks then share these.
 //!
-//! Enter at `Node`. What calls do to the nodes, and that they stay a tree, is `fs_seq`, and trees as rows are `fs_rows`; no
-//! crate above them names these functions. The definitions serve the code, and are in `specs/code/`: `Slots` says which
-//! tree the places under numbers spell, what they keep (`IsForest`), and whether all files are in one form (`HaveForm`);
-//! `Nodes` which places the nodes of a slab are, and what is found in them.
+//! Enter at `Node`. `fs_seq` has what calls do to the nodes, and that they stay a tree, and `fs_rows` has trees as rows. No crate above
+//! them names these functions. The definitions serve the code, and are in `specs/code/`. `Slots` says which tree the places under numbers
+//! spell, what they keep (`IsForest`), and whether all files are in one form (`HaveForm`). `Nodes` says which places the nodes of a slab
+//! are, and what is found in them.
 #![tactic(auto)]
 
 pub mod copying;

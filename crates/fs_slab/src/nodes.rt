@@ -26,7 +26,7 @@ pub struct Link {
     pub node: usize,
 }
 
-/// An entry where it stands: the number of its directory, its place there, and the number of its node.
+/// An entry at its place: the number of its directory, its place there, and the number of its node.
 #[derive(Clone, Copy)]
 pub struct Entry {
     pub dir: usize,
@@ -41,8 +41,8 @@ pub enum Node {
     File(File),
 }
 
-/// Where the last name of a path stands, or where it belongs: the number of the directory and the place among
-/// its entries, with the number of the node, or with the number of the entries.
+/// Where the last name of a path is, or where it belongs: the number of the directory and the place among its entries.
+/// With it comes the number of the node, or the number of the entries.
 #[derive(Drop)]
 pub enum Spot {
     Taken(usize, usize, usize),
@@ -111,7 +111,8 @@ impl Spot {
         }
     }
 
-    /// Whether the directory, which has at most so many entries, has no place for the name; one that stands there has its own.
+    /// Whether the directory, which has at most so many entries, has no place for the name. A name that is there has
+    /// its own.
     pub fn is_full(&self, most: usize) -> bool
         ensures { result ≡ full_there most self.now }
     {
@@ -121,7 +122,7 @@ impl Spot {
         }
     }
 
-    /// The entry, where one stands.
+    /// The entry, if there is one.
     pub fn entry(&self) -> Option<Entry>
         ensures { result ≡ entry_there self.now }
     {
@@ -145,7 +146,7 @@ impl Spot {
     }
 }
 
-/// Where a name stands among the links, or where it belongs.
+/// Where a name is among the links, or where it belongs.
 #[inline]
 pub fn search(links: &[Link], name: &Name) -> Result<usize, usize>
     requires { IsTrue (is_sorted name_cmp (pairs links.now)) }

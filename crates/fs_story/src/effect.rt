@@ -61,7 +61,7 @@ fn of_truncate(size: u64, before: &Reply) -> Effect {
     }
 }
 
-/// What a call changed that did what it says, by what stood at its last path before.
+/// What a call changed that did what it says, by what was at its last path before.
 fn of_done(call: &Call, before: &Reply) -> Effect {
     match call {
         Call::Mkdir(_) | Call::Mknod(_) => Effect::Adds,

@@ -1,4 +1,4 @@
-//! The nodes that a call holds, and where they stand on its paths.
+//! The nodes that a call holds, and where they are on its paths.
 
 ghost use Rattle.std.specs.Prelude.{◌≡◌, length};
 ghost use Rattle.fs_calls.specs.code.Targets.{form_of};
@@ -123,7 +123,8 @@ fn target_len(aim: Target<'_>) -> usize
     }
 }
 
-/// The depth of a node of its call's walk. A victim stands behind the target to which the walk leads, and so do the two heads.
+/// The depth of a node of its call's walk. A victim comes after the target to which the walk leads, and so do the two
+/// heads.
 fn depth_on_walk(held: &Held, target_len: usize) -> Option<usize> {
     let _second = held.second?;
     match held.first {
@@ -150,7 +151,7 @@ pub(crate) fn position(held: &[Held], call: &Call) -> Option<NodeNo> {
     Some(deepest?.node)
 }
 
-/// The depth of a node on one of its call's paths, where it stands above the end of that.
+/// The depth of a node on one of its call's paths, if it is above the end of that.
 fn depth_above(held: &Held, path: &Path, is_second: bool) -> Option<usize> {
     let depth = if is_second { held.second } else { held.first };
     match depth {

@@ -35,7 +35,7 @@ pub enum Deed {
 /// A moment that is shown.
 #[derive(Clone, Copy, Debug)]
 pub struct Line {
-    /// The number of the event in the run, counted from 1; of a checkpoint, that of the event behind it.
+    /// The number of the event in the run, counted from 1; for a checkpoint, that of the event after it.
     pub number: usize,
     /// The seat of its thread; none of a checkpoint.
     pub seat: Option<usize>,
@@ -43,8 +43,47 @@ pub struct Line {
     pub call: u64,
     /// What it did.
     pub deed: Deed,
-    /// Where the path of its node stands in its words; of no bytes where it has no node.
+    /// Where the path of its node is in its words; of no bytes if it has no node.
     pub path: Part,
+    /// Where all else is in its words.
+    pub parts: Parts,
+}
+
+/// Where the words of a line have what it says. A part is of no bytes where the line does not say it.
+#[derive(Clone, Copy, Debug, PartialEq, Eq)]
+pub struct Parts {
+    /// The call: its thread, and its place among the calls of that.
+    pub who: Part,
+    /// The call in words where it begins, and its reply where it returns.
+    pub text: Part,
+    /// The call that holds the node or is helped.
+    pub other: Part,
+    /// The word of what changes.
+    pub change: Part,
+    /// The path of the node, or the first path of what changes; of a node that the call has removed none.
+    pub path: Part,
+    /// The word before a second path.
+    pub joint: Part,
+    /// The second path of what changes, or the path under which the node was locked where that is another one.
+    pub second: Part,
+    /// The error of what fails.
+    pub error: Part,
+}
+
+impl Parts {
+    /// A line that says nothing.
+    pub(crate) fn none() -> Parts {
+        Parts {
+            who: Part::none(),
+            text: Part::none(),
+            other: Part::none(),
+            change: Part::none(),
+            path: Part::none(),
+            joint: Part::none(),
+            second: Part::none(),
+            error: Part::none(),
+        }
+    }
 }
 
 /// A part of the words of a line: where it begins, and where it ends.
@@ -63,12 +102,13 @@ impl Part {
     }
 }
 
-/// Where the moments go that are shown, one after the other, each as soon as it is told: a page keeps of each what it needs.
+/// Where the moments go that are shown, one after the other, each as soon as it comes: a page keeps of each what it
+/// needs.
 pub trait Page: Drop {
-    /// What it has become by what is told of moments, by what it was first.
+    /// What it has become by what is said of moments, and by what it was first.
     ghost Has: { Self → Self → List Saying → Type 0 };
 
-    /// A moment is shown, in these words. An error ends the run, as want of memory does.
+    /// A moment is shown, in these words. An error ends the run, as running out of memory does.
     fn show(&mut self, line: Line, words: &[u8]) -> Result<(), AllocError>
         ensures shown { OnOk result (Adds Has self.old (deed_shown line ∷ []) self.new) };
 }

@@ -11,8 +11,8 @@ use fs_nodes::NodeNo;
 use fs_witness::{Answer, Told};
 use std::alloc::{AllocError, Global};
 
-/// What the last event of each thread waited for, where it waited: the node, and the call that holds it. A thread of which no
-/// event was told yet has no place, or one in which nothing stands.
+/// What the last event of each thread waited for, if it waited: the node, and the call that holds it. A thread of which
+/// no event came yet has no place, or an empty one.
 #[derive(Drop)]
 pub(crate) struct Waits {
     last: Vec<Option<(NodeNo, CallNo)>>,
@@ -38,7 +38,7 @@ fn is_wait_for(node: NodeNo, holder: CallNo, wait: Option<(NodeNo, CallNo)>) -> 
     }
 }
 
-/// Whether an event tells something new, whose thread waited last for this.
+/// Whether an event is news, whose thread waited last for this.
 fn tells_news(last: Option<(NodeNo, CallNo)>, answer: &Answer) -> bool
     ensures { result ≡ is_news last answer.now }
 {
@@ -70,7 +70,7 @@ impl Waits {
         Ok(())
     }
 
-    /// Whether the next event tells something new: it is no idle turn, and no repetition of its thread's last wait.
+    /// Whether the next event is news: it is no idle turn, and no repetition of its thread's last wait.
     pub(crate) fn is_news(&mut self, told: &Told) -> Result<bool, AllocError>
         ensures news { (before : List Told) → AreWaits self.old before → IfOk result (λ news. news ≡ is_news (last_wait before told.now.seat) told.now.answer) }
         ensures waits { (before : List Told) → AreWaits self.old before → OnOk result (AreWaits self.new (told.now ∷ before)) }

@@ -1,4 +1,4 @@
-//! The events of a run, told in words.
+//! The events of a run, in words.
 
 ghost use Rattle.std.specs.Prelude.{◌≡◌, ◌∷◌, [], Bool, List, None, map, IfOk, OnOk};
 ghost use Rattle.fs_witness.specs.declared.moments.Moment.{Moment};
@@ -9,10 +9,10 @@ ghost use Rattle.fs_story.specs.code.Waiting.{AreWaits, GoesOn, HasShown};
 
 use crate::effect::{Effect, effect_of};
 use crate::holdings::{Held, let_go, meaning, position, take};
-use crate::page::{Deed, Line, Page, Part};
+use crate::page::{Deed, Line, Page, Part, Parts};
 use crate::paths::{path_of, paths_of};
 use crate::shown::Waits;
-use fs_calls::{Call, Reply};
+use fs_calls::{Call, Errno, Reply};
 use fs_core::{Core, Stepped};
 use fs_names::{CallNo, Path};
 use fs_nodes::{NodeNo, Store};
@@ -38,8 +38,8 @@ pub struct Standing {
     pub call: u64,
 }
 
-/// A run that was told: the page with the moments that are shown, the calls in the order in which they began, with what each
-/// returned, and how far each thread came.
+/// A run that was played: the page with the moments that are shown, the calls in the order in which they began, with
+/// what each returned, and how far each thread came.
 #[derive(Drop)]
 pub struct Story<P> {
     pub page: P,
@@ -48,26 +48,22 @@ pub struct Story<P> {
     pub threads: Vec<Standing>,
 }
 
-/// What an event did, and where the words have the path of its node.
+/// What an event did, and where the words have what they say of it.
 #[derive(Clone, Copy)]
 struct Said {
     deed: Deed,
-    path: Part,
+    parts: Parts,
 }
 
-impl Said {
-    /// An event that has no node.
-    fn of(deed: Deed) -> Said
-        ensures { result.deed ≡ deed }
-    {
-        Said {
-            deed,
-            path: Part::none(),
-        }
+/// Where the path is of the node that a call locks or waits for.
+fn path_in(said: &Said) -> Part {
+    match said.deed {
+        Deed::Takes(_) | Deed::Waits(_, _) => said.parts.path,
+        _ => Part::none(),
     }
 }
 
-/// A thread in a run: how many of its calls have begun, the number of its call under way, and what that holds.
+/// A thread in a run: how many of its calls have begun, the number of its pending call, and what that holds.
 #[derive(Drop)]
 struct Thread {
     begun: usize,
@@ -114,7 +110,7 @@ impl<'a> Voice<'a> {
         })
     }
 
-    /// Where the call of a number stands among the calls so far; numbers count from 1 behind each checkpoint.
+    /// Where the call of a number is among the calls so far; numbers count from 1 after each checkpoint.
     fn index_of(&self, number: u64) -> Option<usize> {
         if number == 0 {
             return None;
@@ -160,7 +156,7 @@ impl<'a> Voice<'a> {
         }
     }
 
-    /// The number of the call under way of a thread; 0 where there is none.
+    /// The number of the pending call of a thread; 0 if there is none.
     fn under_way(&self, seat: usize) -> u64 {
         match self.threads.get(seat) {
             Some(thread) => thread.call,
@@ -169,37 +165,29 @@ impl<'a> Voice<'a> {
     }
 
     /// A call as one word: its thread, and its place among the calls of that, counted from 1.
-    fn push_who(&self, number: u64, line: &mut Vec<u8>) -> Result<(), AllocError> {
+    fn push_who(&self, number: u64, line: &mut Vec<u8>) -> Result<Part, AllocError> {
+        let from = line.len();
         let Some(place) = self.place_of(number) else {
-            return Ok(());
+            return Ok(Part::none());
         };
         if let Some(name) = self.names.name(place.seat) {
             line.extend_from_slice(name)?;
         }
         line.extend_from_slice(b"#")?;
-        push_number((place.at as u64).saturating_add(1), line)
+        push_number((place.at as u64).saturating_add(1), line)?;
+        Ok(part_from(from, line))
     }
 
-    fn push_path(&self, store: &Store, node: NodeNo, line: &mut Vec<u8>) -> Result<(), AllocError> {
-        match path_of(self.alloc, store, node)? {
-            Some(path) => line.extend_from_slice(path.as_slice()),
-            None => Ok(()),
-        }
-    }
-
-    /// The same, and where the path stands.
-    fn push_node(
+    fn push_path(
         &self,
         store: &Store,
         node: NodeNo,
         line: &mut Vec<u8>,
     ) -> Result<Part, AllocError> {
-        let from = line.len();
-        self.push_path(store, node, line)?;
-        Ok(Part {
-            from,
-            end: line.len(),
-        })
+        match path_of(self.alloc, store, node)? {
+            Some(path) => push_part(path.as_slice(), line),
+            None => Ok(Part::none()),
+        }
     }
 
     /// What the first path of a call means now, or the second.
@@ -210,9 +198,9 @@ impl<'a> Voice<'a> {
         path: &Path,
         is_second: bool,
         line: &mut Vec<u8>,
-    ) -> Result<(), AllocError> {
+    ) -> Result<Part, AllocError> {
         let word = meaning(self.alloc, store, self.held(seat), path, is_second)?;
-        line.extend_from_slice(word.as_slice())
+        push_part(word.as_slice(), line)
     }
 
     /// The path of the position of a thread's call.
@@ -222,10 +210,10 @@ impl<'a> Voice<'a> {
         seat: usize,
         call: &Call,
         line: &mut Vec<u8>,
-    ) -> Result<(), AllocError> {
+    ) -> Result<Part, AllocError> {
         match position(self.held(seat), call) {
             Some(node) => self.push_path(store, node, line),
-            None => Ok(()),
+            None => Ok(Part::none()),
         }
     }
 
@@ -237,9 +225,15 @@ impl<'a> Voice<'a> {
         word: &[u8],
         call: &Call,
         line: &mut Vec<u8>,
-    ) -> Result<(), AllocError> {
-        line.extend_from_slice(word)?;
-        self.push_meaning(store, seat, paths_of(call).0, false, line)
+    ) -> Result<Parts, AllocError> {
+        let change = push_part(word, line)?;
+        line.extend_from_slice(b" ")?;
+        let path = self.push_meaning(store, seat, paths_of(call).0, false, line)?;
+        Ok(Parts {
+            change,
+            path,
+            ..Parts::none()
+        })
     }
 
     /// The same with a second word, and the second path.
@@ -250,45 +244,60 @@ impl<'a> Voice<'a> {
         words: (&[u8], &[u8]),
         call: &Call,
         line: &mut Vec<u8>,
-    ) -> Result<(), AllocError> {
-        self.push_one(store, seat, words.0, call, line)?;
-        line.extend_from_slice(words.1)?;
-        self.push_meaning(store, seat, paths_of(call).1, true, line)
+    ) -> Result<Parts, AllocError> {
+        let one = self.push_one(store, seat, words.0, call, line)?;
+        line.extend_from_slice(b" ")?;
+        let joint = push_part(words.1, line)?;
+        line.extend_from_slice(b" ")?;
+        let second = self.push_meaning(store, seat, paths_of(call).1, true, line)?;
+        Ok(Parts {
+            joint,
+            second,
+            ..one
+        })
     }
 
-    /// What the call under way of a thread changes.
+    /// That the file changes at which a thread's call is.
+    fn push_change(
+        &self,
+        store: &Store,
+        seat: usize,
+        call: &Call,
+        line: &mut Vec<u8>,
+    ) -> Result<Parts, AllocError> {
+        let change = push_part(b"changes", line)?;
+        line.extend_from_slice(b" ")?;
+        let path = self.push_position(store, seat, call, line)?;
+        Ok(Parts {
+            change,
+            path,
+            ..Parts::none()
+        })
+    }
+
+    /// What the pending call of a thread changes.
     fn push_effect(
         &self,
         store: &Store,
         seat: usize,
         line: &mut Vec<u8>,
-    ) -> Result<(), AllocError> {
+    ) -> Result<Parts, AllocError> {
         let number = self.under_way(seat);
         let Some(call) = self.call_of(number) else {
-            return Ok(());
+            return Ok(Parts::none());
         };
         match self.effect(number) {
-            Effect::Adds => self.push_one(store, seat, b"adds ", call, line),
-            Effect::Removes => self.push_one(store, seat, b"removes ", call, line),
-            Effect::Changes => {
-                line.extend_from_slice(b"changes ")?;
-                self.push_position(store, seat, call, line)
+            Effect::Adds => self.push_one(store, seat, b"adds", call, line),
+            Effect::Removes => self.push_one(store, seat, b"removes", call, line),
+            Effect::Changes => self.push_change(store, seat, call, line),
+            Effect::Moves => self.push_both(store, seat, (b"moves", b"to"), call, line),
+            Effect::MovesOver => self.push_both(store, seat, (b"moves", b"over"), call, line),
+            Effect::Exchanges => {
+                self.push_both(store, seat, (b"exchanges", b"with"), call, line)
             }
-            Effect::Moves => self.push_both(store, seat, (b"moves ", b" to "), call, line),
-            Effect::MovesOver => self.push_both(store, seat, (b"moves ", b" over "), call, line),
-            Effect::Exchanges => self.push_both(
-                store,
-                seat,
-                (b"exchanges ", b" with "),
-                call,
-                line,
-            ),
-            Effect::ChangesNothing => line.extend_from_slice(b"changes nothing"),
-            Effect::Answers => line.extend_from_slice(b"answers"),
-            Effect::Fails(errno) => {
-                line.extend_from_slice(b"fails ")?;
-                line.extend_from_slice(errno_text(errno))
-            }
+            Effect::ChangesNothing => push_word(b"changes nothing", line),
+            Effect::Answers => push_word(b"answers", line),
+            Effect::Fails(errno) => push_failure(errno, line),
         }
     }
 
@@ -312,7 +321,7 @@ impl<'a> Voice<'a> {
         seat: usize,
         node: NodeNo,
         line: &mut Vec<u8>,
-    ) -> Result<Part, AllocError> {
+    ) -> Result<Parts, AllocError> {
         if let Some(call) = self.call_of(self.under_way(seat)) {
             if seat < self.threads.len() {
                 take(
@@ -324,8 +333,12 @@ impl<'a> Voice<'a> {
                 )?;
             }
         }
-        line.extend_from_slice(b" takes ")?;
-        self.push_node(store, node, line)
+        line.extend_from_slice(b" locks ")?;
+        let path = self.push_path(store, node, line)?;
+        Ok(Parts {
+            path,
+            ..Parts::none()
+        })
     }
 
     fn tell_wait(
@@ -334,12 +347,16 @@ impl<'a> Voice<'a> {
         node: NodeNo,
         holder: CallNo,
         line: &mut Vec<u8>,
-    ) -> Result<Part, AllocError> {
+    ) -> Result<Parts, AllocError> {
         line.extend_from_slice(b" waits for ")?;
-        let path = self.push_node(store, node, line)?;
+        let path = self.push_path(store, node, line)?;
         line.extend_from_slice(b" held by ")?;
-        self.push_who(holder.get(), line)?;
-        Ok(path)
+        let other = self.push_who(holder.get(), line)?;
+        Ok(Parts {
+            path,
+            other,
+            ..Parts::none()
+        })
     }
 
     fn tell_let_go(
@@ -348,30 +365,17 @@ impl<'a> Voice<'a> {
         seat: usize,
         node: NodeNo,
         line: &mut Vec<u8>,
-    ) -> Result<(), AllocError> {
+    ) -> Result<Parts, AllocError> {
         if seat >= self.threads.len() {
-            return Ok(());
+            return Ok(Parts::none());
         }
         let taken = match let_go(&mut self.threads[seat].held, node) {
             Some(held) => held.taken,
             None => Vec::new(self.alloc),
         };
-        line.extend_from_slice(b" lets ")?;
-        match path_of(self.alloc, store, node)? {
-            None => {
-                line.extend_from_slice(taken.as_slice())?;
-                line.extend_from_slice(b" go, removed")
-            }
-            Some(path) => {
-                line.extend_from_slice(path.as_slice())?;
-                line.extend_from_slice(b" go")?;
-                if path.as_slice() == taken.as_slice() {
-                    return Ok(());
-                }
-                line.extend_from_slice(b", taken as ")?;
-                line.extend_from_slice(taken.as_slice())
-            }
-        }
+        line.extend_from_slice(b" unlocks ")?;
+        let now = path_of(self.alloc, store, node)?;
+        push_unlocked(now, taken.as_slice(), line)
     }
 
     /// A call takes its place, and the tree of the commits changes as it says.
@@ -389,15 +393,20 @@ impl<'a> Voice<'a> {
         store: &Store,
         helped: CallNo,
         line: &mut Vec<u8>,
-    ) -> Result<(), AllocError> {
+    ) -> Result<Parts, AllocError> {
         self.commit(helped.get())?;
         line.extend_from_slice(b" helps ")?;
-        self.push_who(helped.get(), line)?;
+        let other = self.push_who(helped.get(), line)?;
         line.extend_from_slice(b", commits it at ")?;
-        match (self.place_of(helped.get()), self.call_of(helped.get())) {
-            (Some(place), Some(call)) => self.push_position(store, place.seat, call, line),
-            _ => Ok(()),
-        }
+        let path = match (self.place_of(helped.get()), self.call_of(helped.get())) {
+            (Some(place), Some(call)) => self.push_position(store, place.seat, call, line)?,
+            _ => Part::none(),
+        };
+        Ok(Parts {
+            other,
+            path,
+            ..Parts::none()
+        })
     }
 
     fn tell_commit(
@@ -405,7 +414,7 @@ impl<'a> Voice<'a> {
         store: &Store,
         seat: usize,
         line: &mut Vec<u8>,
-    ) -> Result<(), AllocError> {
+    ) -> Result<Parts, AllocError> {
         self.commit(self.under_way(seat))?;
         line.extend_from_slice(b" commits, ")?;
         self.push_effect(store, seat, line)
@@ -416,8 +425,8 @@ impl<'a> Voice<'a> {
         store: &Store,
         seat: usize,
         line: &mut Vec<u8>,
-    ) -> Result<(), AllocError> {
-        line.extend_from_slice(b" carries out, ")?;
+    ) -> Result<Parts, AllocError> {
+        line.extend_from_slice(b" makes its change, ")?;
         self.push_effect(store, seat, line)
     }
 
@@ -426,13 +435,18 @@ impl<'a> Voice<'a> {
         seat: usize,
         reply: &Reply,
         line: &mut Vec<u8>,
-    ) -> Result<(), AllocError> {
+    ) -> Result<Parts, AllocError> {
         if seat < self.threads.len() {
             self.threads[seat].call = 0;
             self.threads[seat].held.clear();
         }
         line.extend_from_slice(b" returns ")?;
-        write_reply(self.alloc, reply, line)
+        let from = line.len();
+        write_reply(self.alloc, reply, line)?;
+        Ok(Parts {
+            text: part_from(from, line),
+            ..Parts::none()
+        })
     }
 
     fn tell_step(
@@ -444,21 +458,20 @@ impl<'a> Voice<'a> {
     ) -> Result<Said, AllocError>
         ensures { IfOk result (λ said. said.deed ≡ deed_of_step stepped.now) }
     {
-        self.push_who(self.under_way(seat), line)?;
-        let mut path = Part::none();
-        match stepped {
-            Stepped::Idle => {}
-            Stepped::Took(node) => path = self.tell_take(store, seat, *node, line)?,
-            Stepped::Busy(node, holder) => path = self.tell_wait(store, *node, *holder, line)?,
+        let who = self.push_who(self.under_way(seat), line)?;
+        let parts = match stepped {
+            Stepped::Idle => Parts::none(),
+            Stepped::Took(node) => self.tell_take(store, seat, *node, line)?,
+            Stepped::Busy(node, holder) => self.tell_wait(store, *node, *holder, line)?,
             Stepped::LetGo(node) => self.tell_let_go(store, seat, *node, line)?,
             Stepped::Helped(helped) => self.tell_help(store, *helped, line)?,
             Stepped::Committed => self.tell_commit(store, seat, line)?,
             Stepped::CarriedOut => self.tell_carry_out(store, seat, line)?,
             Stepped::Returned(reply) => self.tell_return(seat, reply, line)?,
-        }
+        };
         Ok(Said {
             deed: deed_of(stepped),
-            path,
+            parts: Parts { who, ..parts },
         })
     }
 
@@ -471,14 +484,23 @@ impl<'a> Voice<'a> {
         ensures { IfOk result (λ said. said.deed ≡ Deed.Begins) }
     {
         self.begin(seat, number)?;
-        self.push_who(number, line)?;
+        let who = self.push_who(number, line)?;
         line.extend_from_slice(b" begins ")?;
+        let from = line.len();
         if let Some(call) = self.call_of(number) {
             write_call(self.alloc, call, line)?;
         }
+        let text = part_from(from, line);
         line.extend_from_slice(b", call ")?;
         push_number(number, line)?;
-        Ok(Said::of(Deed::Begins))
+        Ok(Said {
+            deed: Deed::Begins,
+            parts: Parts {
+                who,
+                text,
+                ..Parts::none()
+            },
+        })
     }
 
     fn tell_idle(&self, seat: usize, line: &mut Vec<u8>) -> Result<Said, AllocError>
@@ -488,7 +510,10 @@ impl<'a> Voice<'a> {
             line.extend_from_slice(name)?;
         }
         line.extend_from_slice(b" has nothing left")?;
-        Ok(Said::of(Deed::Idles))
+        Ok(Said {
+            deed: Deed::Idles,
+            parts: Parts::none(),
+        })
     }
 
     /// Adds the words of an event, which left the nodes so, and answers what it did.
@@ -539,14 +564,15 @@ impl<'a> Voice<'a> {
             seat: Some(seat),
             call,
             deed: said.deed,
-            path: said.path,
+            path: path_in(&said),
+            parts: said.parts,
         };
         page.show(line, words.as_slice())?;
         self.keep_reply(call, told.answer);
         Ok(())
     }
 
-    /// The calls from here on begin behind a checkpoint.
+    /// The calls from here on begin after a checkpoint.
     fn checkpoint(&mut self) {
         self.before = self.calls.len();
     }
@@ -562,12 +588,13 @@ fn show_checkpoint<P: Page>(number: usize, page: &mut P) -> Result<(), AllocErro
         call: 0,
         deed: Deed::Checkpoint,
         path: Part::none(),
+        parts: Parts::none(),
     };
     page.show(line, b", the next call is call 1")
 }
 
-/// Tells a run as its moments come: each event, or those that tell something new, and each checkpoint. A page is shown each
-/// where it comes, and the teller keeps none of them.
+/// Puts a run into words as its moments come: each event, or those that are news, and each checkpoint. A page is shown
+/// each when it comes, and the teller keeps none of them.
 #[derive(Drop)]
 pub struct Teller<'a, P> {
     voice: Voice<'a>,
@@ -579,7 +606,7 @@ pub struct Teller<'a, P> {
 }
 
 impl<'a, P: Page> Teller<'a, P> {
-    /// Before the first moment of a run of a script. It shows every event, or those that tell something new.
+    /// Before the first moment of a run of a script. It shows every event, or those that are news.
     pub fn new(
         alloc: Global,
         script: &'a Script,
@@ -598,7 +625,7 @@ impl<'a, P: Page> Teller<'a, P> {
         })
     }
 
-    /// Goes on by an event, and shows it where it tells something new or every one is asked for.
+    /// Goes on by an event, and shows it if it is news or every one is asked for.
     fn go_on(&mut self, store: &Store, told: Told) -> Result<(), AllocError>
         ensures waits { (before : List Told) → AreWaits self.old.waits before → OnOk result (AreWaits self.new.waits (told ∷ before)) }
         ensures page { (before : List Told) → AreWaits self.old.waits before → OnOk result (Adds P.Has self.old.page (map deed_told (shown_one self.old.every before self.old.number (Event told))) self.new.page) }
@@ -615,7 +642,7 @@ impl<'a, P: Page> Teller<'a, P> {
         Ok(())
     }
 
-    /// What was told.
+    /// What was put into words.
     pub fn story(self) -> Result<Story<P>, AllocError>
         ensures { (every : Bool) (start : P) (ms : List Moment) → HasShown P.Has every start self.entry ms → IfOk result (λ story. Tells P.Has every start story ms) }
     {
@@ -676,6 +703,72 @@ fn deed_of(stepped: &Stepped) -> Deed
 fn push_number(number: u64, line: &mut Vec<u8>) -> Result<(), AllocError> {
     let mut buffer = Buffer::new();
     line.extend_from_slice(buffer.format(number).as_bytes())
+}
+
+/// The words of a line from a place on.
+fn part_from(from: usize, line: &[u8]) -> Part {
+    Part {
+        from,
+        end: line.len(),
+    }
+}
+
+/// Adds bytes, and answers where they are.
+fn push_part(bytes: &[u8], line: &mut Vec<u8>) -> Result<Part, AllocError> {
+    let from = line.len();
+    line.extend_from_slice(bytes)?;
+    Ok(part_from(from, line))
+}
+
+/// The word of a change that has no path.
+fn push_word(word: &[u8], line: &mut Vec<u8>) -> Result<Parts, AllocError> {
+    let change = push_part(word, line)?;
+    Ok(Parts {
+        change,
+        ..Parts::none()
+    })
+}
+
+/// That a call fails.
+fn push_failure(errno: Errno, line: &mut Vec<u8>) -> Result<Parts, AllocError> {
+    let change = push_part(b"fails", line)?;
+    line.extend_from_slice(b" ")?;
+    let error = push_part(errno_text(errno), line)?;
+    Ok(Parts {
+        change,
+        error,
+        ..Parts::none()
+    })
+}
+
+/// A node that is unlocked, by its path now, where one leads to it, and the path under which it was locked.
+fn push_unlocked(
+    now: Option<Vec<u8>>,
+    locked: &[u8],
+    line: &mut Vec<u8>,
+) -> Result<Parts, AllocError> {
+    let Some(now) = now else {
+        let second = push_part(locked, line)?;
+        line.extend_from_slice(b", removed")?;
+        return Ok(Parts {
+            second,
+            ..Parts::none()
+        });
+    };
+    let path = push_part(now.as_slice(), line)?;
+    if now.as_slice() == locked {
+        return Ok(Parts {
+            path,
+            ..Parts::none()
+        });
+    }
+    line.extend_from_slice(b", locked as ")?;
+    let second = push_part(locked, line)?;
+    Ok(Parts {
+        path,
+        second,
+        ..Parts::none()
+    })
 }
 
 /// How far each thread came.

@@ -25,7 +25,7 @@ enum OnPath {
     Readdir,
 }
 
-/// What the first word of a call says: which call it is, and so what stands behind the word.
+/// What the first word of a call says: which call it is, and so what comes after the word.
 #[derive(Clone, Copy)]
 enum Form {
     OnPath(OnPath),
@@ -291,7 +291,7 @@ pub fn call_with<'a>(
     }
 }
 
-/// How many words stand behind the first word of a call.
+/// How many words come after the first word of a call.
 fn argument_count(form: Form) -> usize
     ensures { result ≡ argument_count (form_meant form) }
 {
@@ -302,7 +302,7 @@ fn argument_count(form: Form) -> usize
     }
 }
 
-/// Whether the first word is a call's by these limits, with the right number of words behind it.
+/// Whether the first word is a call's under these limits, with the right number of words after it.
 pub(crate) fn has_call_form(limits: Limits, words: &[&[u8]]) -> bool
     ensures { result ≡ has_call_form limits (map (λ w. w.now) words.now) }
 {

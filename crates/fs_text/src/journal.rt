@@ -108,8 +108,8 @@ fn entry_in<'a>(
     entry_at(alloc, recent, limits, words.as_slice())
 }
 
-/// Reads the entries of lines behind a header, or behind the start tree of a journal, by these limits, as `read_entries` does
-/// by those of the first version.
+/// Reads the entries of lines after a header, or after the start tree of a journal, under these limits, as
+/// `read_entries` does under those of the first version.
 pub fn entries_in(
     alloc: Global,
     limits: Limits,

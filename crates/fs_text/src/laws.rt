@@ -2,7 +2,7 @@
 
 ghost use Rattle.fs_text.specs.Laws.{ReadsBack};
 
-/// Entries that were written behind the header line are read again as the same entries.
+/// Entries that were written after the header line are read again as the same entries.
 pub fn reads_back()
     ensures { ReadsBack }
 {}

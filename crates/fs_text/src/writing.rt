@@ -17,7 +17,7 @@ use fs_words::addition::put_back;
 use std::alloc::{AllocError, Global};
 use std::mem;
 
-/// A word with its space, and a path behind it.
+/// A word with its space, and a path after it.
 #[tactic(auto, using(crate::proofs::FitLemmas::path_fits))]
 fn push_with_path(
     alloc: Global,
@@ -33,7 +33,7 @@ fn push_with_path(
     line.push_path(alloc, path)
 }
 
-/// A word with its space, and two paths behind it.
+/// A word with its space, and two paths after it.
 fn push_with_paths(
     alloc: Global,
     word: &[u8],
@@ -149,7 +149,7 @@ pub fn errno_text(errno: Errno) -> &'static [u8]
     }
 }
 
-/// Each name behind a space.
+/// Each name after a space.
 fn push_names(alloc: Global, names: &NameList, line: &mut Addition) -> Result<(), AllocError>
     ensures ok { OnOk result (line.new.added ≡ line.old.added ++ flat_map (λ n. 32 ∷ escaped n) names.now) }
     ensures fits { OnOk result (AllByRecursion (FitsName largest) names.now) }
@@ -238,7 +238,7 @@ pub fn write_call(alloc: Global, call: &Call, text: &mut Vec<u8>) -> Result<(), 
     put_back(added, line, text)
 }
 
-/// Appends the text of a reply: its words with a space between, as the line of its return has them behind the call's
+/// Appends the text of a reply: its words with a space between, as the line of its return has them after the call's
 /// number, and no line feed. An `Err`, which is out of memory, leaves the text as it was.
 pub fn write_reply(alloc: Global, reply: &Reply, text: &mut Vec<u8>) -> Result<(), AllocError>
     ensures ok { OnOk result (text.new.items ≡ text.old.items ++ join_with_byte 32 (reply_words reply.now)) }

@@ -107,10 +107,11 @@ fn text_of_script<R: Threads + Wait + Clock + Sync, G: Watch + Sync>(
     }
 }
 
-/// Reads a script to its end, plays each of its blocks by a worker of its own, whatever its schedule says, has the closed
-/// timeline checked, and writes one line, `lawful calls` and the number of calls that returned, or in its place the journal of
-/// the timeline. The answer is whether the timeline is lawful, and by the clauses it is. The text is made before its first byte is
-/// written. Whoever watches is told how many calls there are, and then of each event, by the thread that did it.
+/// Reads a script to its end, and plays each of its blocks with a worker of its own, whatever its schedule says. It
+/// checks the closed timeline, and writes one line, `lawful calls` and the number of calls that returned, or in its
+/// place the journal of the timeline. The answer is whether the timeline is lawful, and by the clauses it is. The text
+/// is made before its first byte is written. A watcher first gets the number of calls, and then each event, from the
+/// thread that did it.
 pub fn run_threads<R: Threads + Wait + Clock + Sync, S: Source, W: Sink, G: Watch + Sync>(
     rt: &R,
     alloc: Global,

@@ -1,8 +1,8 @@
-//! Who is told how far threads are.
+//! Who sees how far threads are.
 
 use fs_share::{Gate, Open};
 
-/// A gate that is told first how many calls there are. Nothing that the runner answers, reads or writes depends on it.
+/// A gate that first gets the number of calls. Nothing that the runner answers, reads or writes depends on it.
 pub trait Watch: Gate {
     /// Threads begin, with so many calls in all.
     fn begins(&self, calls: usize);

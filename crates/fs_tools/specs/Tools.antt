@@ -58,7 +58,7 @@ pub record IsFoundText (history : List ℕ) (limit form number : ℕ) (text : Li
   pub f : Found
   pub written : List ℕ
   pub words : List ℕ
-  pub read : history_of history ≡ Ok h
+  pub read : history_of [] history ≡ Ok h
   pub found : IsFoundOf h limit (eqb form FRONT) f written
   pub number_is : number ≡ found_number (outcome_of f)
   pub quiet : outcome_of f ≡ Lawful → words ≡ []

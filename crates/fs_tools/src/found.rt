@@ -1,10 +1,11 @@
 //! What is found of a history in memory, with the number of what came of it.
 
-ghost use Rattle.std.specs.Prelude.{◌≡◌, ◌++◌, IfOk, IfErr, OnOk};
+ghost use Rattle.std.specs.Prelude.{[], ◌≡◌, ◌++◌, IfOk, IfErr, OnOk};
 ghost use Rattle.fs_verdict.specs.Devices.{IsFaultOf};
 ghost use Rattle.fs_recorded.specs.Texts.{history_of};
 ghost use Rattle.fs_tools.specs.Tools.{found_number, words_line, IsFoundText};
 
+use fs_dialects::Dialect;
 use fs_io::Made;
 use fs_recorded::{Linearized, Outcome, linearize_bytes};
 use fs_verdict::RunFault;
@@ -58,9 +59,16 @@ pub fn found_bytes(
     form: u8,
 ) -> Result<FoundText, RunFault>
     ensures found { IfOk result (λ told. IsFoundText history.now limit form told.number told.text.items) }
-    ensures fault { IfErr result (IsFaultOf (history_of history.now)) }
+    ensures fault { IfErr result (IsFaultOf (history_of [] history.now)) }
 {
-    let Made { mut text, end } = linearize_bytes(alloc, history, limit as usize, form == FRONT)?;
+    let dialect = Dialect::new(alloc);
+    let Made { mut text, end } = linearize_bytes(
+        alloc,
+        history,
+        &dialect,
+        limit as usize,
+        form == FRONT,
+    )?;
     let Linearized { outcome, reason } = end;
     match push_words(&reason, form, &mut text) {
         Ok(()) => Ok(FoundText {

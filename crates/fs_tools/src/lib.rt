@@ -1,8 +1,8 @@
-//! What tools over texts make in memory, and why one makes nothing, told by a status.
+//! What tools over texts make in memory, and a status that says why one makes nothing.
 //!
-//! `draw_bytes` makes a picture and `found_bytes` what is found of a history, by the numbers with which a caller of another language
-//! asks: `around_of`, `LINE`, `FRONT`, `WORDS`. `tell_no_picture` and `tell_no_schedule` tell the faults of pictures and schedules
-//! as `fs_embed` tells those of runs. What has neither, as a trace, is made by its own crate.
+//! `draw_bytes` makes a picture, and `found_bytes` makes what is found of a history. Both use the numbers with which a caller of another
+//! language asks: `around_of`, `LINE`, `FRONT`, `WORDS`. `tell_no_picture` and `tell_no_schedule` report the faults of pictures and
+//! schedules as `fs_embed` reports those of runs. A tool that has neither, such as the trace, is in its own crate.
 //!
 //! The definitions are in `specs/Tools.antt`.
 #![tactic(auto)]

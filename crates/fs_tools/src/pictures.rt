@@ -47,7 +47,7 @@ pub fn draw_bytes(
     }
 }
 
-/// Tells why there is no picture.
+/// The status of a script without a picture, and what it is about.
 pub fn tell_no_picture(fault: DrawFault, count: &mut usize) -> u8
     ensures told { IsToldNoPicture fault result count.new }
     ensures refused { IsRefusal result }

@@ -7,7 +7,7 @@ use fs_embed::status::TOO_LARGE;
 use fs_embed::told::tell_fault;
 use fs_trace::ScheduleFault;
 
-/// Tells why a script does not get the events of a run as its words.
+/// The status of a script that does not get the events of a run as its words, and what it is about.
 pub fn tell_no_schedule(fault: ScheduleFault, count: &mut usize) -> u8
     ensures told { IsToldNoSchedule fault result count.new }
     ensures refused { IsRefusal result }

@@ -18,7 +18,7 @@ use Rattle.fs_script.specs.Script.{is_thread, is_star, seat_named, with_call, wi
 use Rattle.fs_script.specs.declared.limits.TheConstants.{THREAD_LIMIT, EVENT_LIMIT}
 use Rattle.fs_script.specs.declared.script.Script.{Script}
 use Rattle.fs_script.specs.declared.script.Word.{Word}
-use Rattle.fs_script.specs.declared.script.Word.TheVariants.{Events, Finish, Checkpoint}
+use Rattle.fs_script.specs.declared.script.Word.TheVariants.{Events, Finish, Checkpoint, Drawn}
 use Rattle.fs_trace.specs.code.WordTexts.{is_schedule}
 use Rattle.fs_trace.proofs.Naming.{AreNames, names_more}
 
@@ -109,7 +109,8 @@ word_reworded : (s : Script) (word : words.Word) → Holds (HasOtherWords s) (sc
 unfolding schedule_word
 word_reworded s word = else_holds (HasOtherWords s) (has_finish s.words) _ _ (λ unended.
     either_holds (HasOtherWords s) (bytes_eq word (codes "finish")) (Ok (with_word s Finish)) _ (reworded s Finish)
-    (either_holds (HasOtherWords s) (bytes_eq word (codes "!checkpoint")) (Ok (with_word s Checkpoint)) (timed_word s word (position is_star word)) (reworded s Checkpoint) (timed_reworded s word (position is_star word))))
+    (either_holds (HasOtherWords s) (bytes_eq word (codes "!checkpoint")) (Ok (with_word s Checkpoint)) _ (reworded s Checkpoint)
+    (either_holds (HasOtherWords s) (bytes_eq word (codes "!drawn")) (Ok (with_word s Drawn)) (timed_word s word (position is_star word)) (reworded s Drawn) (timed_reworded s word (position is_star word)))))
 
 -- other words twice are other words
 reworded_twice : {F : Type 0} (s t : Script) (r : Result Script F) → HasOtherWords s t → Holds (HasOtherWords t) r → Holds (HasOtherWords s) r

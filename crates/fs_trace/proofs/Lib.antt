@@ -3,6 +3,7 @@ mod Heads
 mod Lining
 mod Making
 mod Naming
+mod Objecting
 mod Playing
 mod Rereading
 mod Wording

@@ -37,14 +37,14 @@ lines_more told s first old new (lines, are, e) (words, adds) =
     )
 
 -- the lines of the threads, with the next one
-pub threads_more : (names : List (List ℕ)) (i : ℕ) (name old now new : List ℕ) → i < length names → name ≡ get_or names i [] → now ≡ old ++ flat_map thread_line (take i names) → new ≡ now ++ thread_line name → new ≡ old ++ flat_map thread_line (take (i + 1) names)
-threads_more names i name old now new less is e adds =
-    adds ∙ ap (λ (l : List ℕ). l ++ thread_line name) e ∙ append_assoc old (flat_map thread_line (take i names)) (thread_line name)
+pub threads_more : (line : List ℕ → List ℕ) (names : List (List ℕ)) (i : ℕ) (name old now new : List ℕ) → i < length names → name ≡ get_or names i [] → now ≡ old ++ flat_map line (take i names) → new ≡ now ++ line name → new ≡ old ++ flat_map line (take (i + 1) names)
+threads_more line names i name old now new less is e adds =
+    adds ∙ ap (λ (l : List ℕ). l ++ line name) e ∙ append_assoc old (flat_map line (take i names)) (line name)
     ∙ ap (λ (l : List ℕ). old ++ l)
-    (ap (λ (l : List ℕ). flat_map thread_line (take i names) ++ l) (sym (append-nil (thread_line name)))
-    ∙ sym (flat_map-append thread_line (take i names) (name ∷ []))
-    ∙ ap (λ (x : List ℕ). flat_map thread_line (take i names ++ x ∷ [])) is
-    ∙ ap (flat_map thread_line) (sym (take_more names i [] less)))
+    (ap (λ (l : List ℕ). flat_map line (take i names) ++ l) (sym (append-nil (line name)))
+    ∙ sym (flat_map-append line (take i names) (name ∷ []))
+    ∙ ap (λ (x : List ℕ). flat_map line (take i names ++ x ∷ [])) is
+    ∙ ap (flat_map line) (sym (take_more names i [] less)))
 
 -- the part of a trace up to its tree
 pub head_is : (every : Bool) (names : List (List ℕ)) (ms : List Moment) (start now : TraceLines) (before added left text : List ℕ) → IsTraceStart names start → HasLines start now (map deed_told (shown every ms)) → before ≡ now.text.before → added ≡ now.text.added ++ left

@@ -13,19 +13,23 @@ use Rattle.fs_sched.specs.declared.watching.Ran.{Ran}
 use Rattle.fs_story.specs.code.Waiting.{GoesOn, HasShown}
 use Rattle.fs_story.specs.declared.story.Teller.{Teller}
 use Rattle.fs_trace.specs.Faults.{IsFaultOfSchedule}
+use Rattle.fs_story.specs.Shown.{Saying}
+use Rattle.fs_trace.specs.Objects.{AreObjectsOf, IsObjectText}
 use Rattle.fs_trace.specs.Traces.{IsTraceOf, IsTraceText}
 use Rattle.fs_trace.specs.code.LineTexts.{HasLines}
 use Rattle.fs_trace.specs.code.Mades.{IsNotHandedOut}
+use Rattle.fs_trace.specs.code.ObjectTexts.{HasObjects}
 use Rattle.fs_trace.specs.declared.fault.ScheduleFault.{ScheduleFault}
 use Rattle.fs_trace.specs.declared.fault.ScheduleFault.TheVariants.{Run, TooManyEvents, TooLong}
+use Rattle.fs_trace.specs.declared.objects.TraceObjects.{TraceObjects}
 use Rattle.fs_trace.specs.declared.trace_text.TraceLines.{TraceLines}
 use Rattle.fs_verdict.specs.declared.fault.RunFault.TheVariants as run
 use Rattle.fs_witness.specs.declared.moments.Moment.{Moment}
 
 -- what a teller has shown of a run is what the run's moments are
-pub told_all : (every : Bool) (schedule : Schedule) (script : Script) (start : TraceLines) (old new : Teller TraceLines) (ran : Ran) → HasShown HasLines every start old []
-    → (w : Watches (λ (first : Teller TraceLines) teller ms. GoesOn HasLines first teller ms) schedule script old ran new) → HasShown HasLines every start new w.moments
-told_all every schedule script start old new ran none w = w.hears old [] (λ e s begins. begins) every start none
+pub told_all : {P : Type 0} (has : P → P → List Saying → Type 0) (every : Bool) (schedule : Schedule) (script : Script) (start : P) (old new : Teller P) (ran : Ran) → HasShown has every start old []
+    → (w : Watches (λ (first : Teller P) teller ms. GoesOn has first teller ms) schedule script old ran new) → HasShown has every start new w.moments
+told_all has every schedule script start old new ran none w = w.hears old [] (λ e s begins. begins) every start none
 
 -- its trace is one of the script that was read
 pub trace_made : (schedule : Schedule) (every : Bool) (text made : List ℕ) (script : Script) (old new : Teller TraceLines) (ran : Ran) → script_of text ≡ Ok script
@@ -38,6 +42,19 @@ trace_made schedule every text made script old new ran is w trace = (
   w.tells,
   w.end,
   subst (λ (s : State). IsTraceText every script.names w.moments s made) (sym w.core) trace,
+)
+
+-- and so are its objects
+pub objects_made : (schedule : Schedule) (every : Bool) (text made : List ℕ) (script : Script) (old new : Teller TraceObjects) (ran : Ran) → script_of text ≡ Ok script
+    → (w : Watches (λ (first : Teller TraceObjects) teller ms. GoesOn HasObjects first teller ms) schedule script old ran new) → IsObjectText every script.names w.moments (state_of ran.core) made → AreObjectsOf schedule every text ran.end made
+objects_made schedule every text made script old new ran is w objects = (
+  script,
+  is,
+  w.moments,
+  w.last,
+  w.tells,
+  w.end,
+  subst (λ (s : State). IsObjectText every script.names w.moments s made) (sym w.core) objects,
 )
 
 -- a script that was not handed out, with the moments of a run as its words

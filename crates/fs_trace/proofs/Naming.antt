@@ -109,6 +109,7 @@ record NameFacts (name : List ℕ) : Type 0 where
   clear : All (λ b. is_star b ≡ false) name
   begun : (more : List ℕ) → is_passed_over (name ++ more) ≡ false
   mark : (more : List ℕ) → bytes_eq (name ++ more) (codes "!checkpoint") ≡ false
+  drawn : (more : List ℕ) → bytes_eq (name ++ more) (codes "!drawn") ≡ false
   other : bytes_eq name (codes "finish") ≡ false
 
 not_true : (b : Bool) → not b ≡ true → b ≡ false
@@ -132,6 +133,7 @@ name_facts (b ∷ bs) e =
       clear = stars_none (b ∷ bs) bytes.0;
       begun = λ more. no_comment;
       mark = λ more. ap (λ t. t && bytes_eq (bs ++ more) (codes "checkpoint")) no_mark;
+      drawn = λ more. ap (λ t. t && bytes_eq (bs ++ more) (codes "drawn")) no_mark;
       other = not_true _ last.1;
     }
 
@@ -176,15 +178,15 @@ events_read s seat times some few =
     cond-true _ _ _ (and_from _ _ (le-leb 1 times some) (le-leb times EVENT_LIMIT few_here)) ∙ cond-false _ _ _ room
 
 -- a word that is no mark is read by its star
-by_star : (s : Script) (word : List ℕ) → has_finish s.words ≡ false → bytes_eq word (codes "finish") ≡ false → bytes_eq word (codes "!checkpoint") ≡ false → schedule_word s word ≡ timed_word s word (position is_star word)
+by_star : (s : Script) (word : List ℕ) → has_finish s.words ≡ false → bytes_eq word (codes "finish") ≡ false → bytes_eq word (codes "!checkpoint") ≡ false → bytes_eq word (codes "!drawn") ≡ false → schedule_word s word ≡ timed_word s word (position is_star word)
 unfolding schedule_word
-by_star s word unended other mark = cond-false _ _ _ unended ∙ cond-false _ _ _ other ∙ cond-false _ _ _ mark
+by_star s word unended other mark drawn = cond-false _ _ _ unended ∙ cond-false _ _ _ other ∙ cond-false _ _ _ mark ∙ cond-false _ _ _ drawn
 
 one_read : (s : Script) (seat : ℕ) → AreNames s.names → seat < length s.names → has_finish s.words ≡ false → events_in s.words + 1 ≤ EVENT_LIMIT → schedule_word s (get_or s.names seat []) ≡ Ok (with_word s (Events seat 1))
 one_read s seat are there unended few =
     let name : List ℕ = get_or s.names seat [] in
     let facts = name_facts name (thread_at s.names seat are there) in
-    by_star s name unended facts.other (ap (λ n. bytes_eq n (codes "!checkpoint")) (sym (append-nil name)) ∙ facts.mark [])
+    by_star s name unended facts.other (ap (λ n. bytes_eq n (codes "!checkpoint")) (sym (append-nil name)) ∙ facts.mark []) (ap (λ n. bytes_eq n (codes "!drawn")) (sym (append-nil name)) ∙ facts.drawn [])
     ∙ ap (timed_word s name) (no_star_place name facts.clear)
     ∙ ap (λ o. events_word s o (Some 1)) (seat_found s.names seat are there)
     ∙ events_read s seat 1 (omega arith) few
@@ -195,7 +197,7 @@ many_read s seat times are there unended some few =
     let facts = name_facts name (thread_at s.names seat are there) in
     let text : List ℕ = starred name times in
     let behind : drop (length name + 1) text ≡ decimal times = drop-append-add name (42 ∷ decimal times) 1 in
-    by_star s text unended (starred_other name (decimal times) facts.clear) (facts.mark (42 ∷ decimal times))
+    by_star s text unended (starred_other name (decimal times) facts.clear) (facts.mark (42 ∷ decimal times)) (facts.drawn (42 ∷ decimal times))
     ∙ ap (timed_word s text) (star_place name (decimal times) facts.clear)
     ∙ ap (λ n. events_word s (seat_named s.names n) (number_of (drop (length name + 1) text))) (take-append_seam name (42 ∷ decimal times))
     ∙ ap (λ o. events_word s o (number_of (drop (length name + 1) text))) (seat_found s.names seat are there)

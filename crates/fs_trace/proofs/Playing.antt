@@ -66,12 +66,14 @@ seats_append : (n : ℕ) (xs ys : List Word) → SeatsAreThere n xs → SeatsAre
 seats_append n [] ys a b = b
 seats_append n (word.Events seat times ∷ xs) ys (less, a) b = (less, seats_append n xs ys a b)
 seats_append n (word.Finish ∷ xs) ys a b = seats_append n xs ys a b
+seats_append n (word.Drawn ∷ xs) ys a b = seats_append n xs ys a b
 seats_append n (word.Checkpoint ∷ xs) ys a b = seats_append n xs ys a b
 
 seats_behind : (n : ℕ) (xs ys : List Word) → SeatsAreThere n (xs ++ ys) → SeatsAreThere n ys
 seats_behind n [] ys a = a
 seats_behind n (word.Events seat times ∷ xs) ys (less, a) = seats_behind n xs ys a
 seats_behind n (word.Finish ∷ xs) ys a = seats_behind n xs ys a
+seats_behind n (word.Drawn ∷ xs) ys a = seats_behind n xs ys a
 seats_behind n (word.Checkpoint ∷ xs) ys a = seats_behind n xs ys a
 
 event_there : (lists : List (List Call)) (before : List Entry) (old new : Stage) (seat : ℕ) (a : Answer) → AnswersEvent lists old seat a new → ListFacts lists before old → SeatsAreThere (length lists) (busy_event seat a)
@@ -111,6 +113,7 @@ no_finish [] timed = refl
 no_finish (word.Events seat times ∷ words) (some, timed) = no_finish words timed
 no_finish (word.Checkpoint ∷ words) timed = no_finish words timed
 no_finish (word.Finish ∷ words) timed = absurd timed
+no_finish (word.Drawn ∷ words) timed = absurd timed
 
 -- a run of the script by these words ends where the run ended whose moments they give
 own_run : (schedule : Schedule) (script : Script) (ms : List Moment) (last : Stage) (words : List Word) → TellsRun schedule script ms last → AreTimed words → given_words words ≡ busy_words ms → Runs Given (record script { words = words }) (entries_told ms) last
@@ -131,6 +134,7 @@ events_append : (xs ys : List Word) → events_in (xs ++ ys) ≡ events_in xs + 
 events_append [] ys = omega arith
 events_append (word.Events seat times ∷ xs) ys = let h : events_in (xs ++ ys) ≡ events_in xs + events_in ys = events_append xs ys in omega (arith, h)
 events_append (word.Finish ∷ xs) ys = events_append xs ys
+events_append (word.Drawn ∷ xs) ys = events_append xs ys
 events_append (word.Checkpoint ∷ xs) ys = events_append xs ys
 
 events_single : (times seat : ℕ) → events_in (replicate times (one_event seat)) ≡ times
@@ -147,6 +151,7 @@ events_given (word.Events seat times ∷ words) (some, timed) =
     omega (arith, a, b, h)
 events_given (word.Checkpoint ∷ words) timed = events_given words timed
 events_given (word.Finish ∷ words) timed = absurd timed
+events_given (word.Drawn ∷ words) timed = absurd timed
 
 first_there : (n times seat : ℕ) (ys : List Word) → 1 ≤ times → SeatsAreThere n (replicate times (one_event seat) ++ ys) → seat < n
 first_there n zero seat ys some a = absurd (omega (arith, some))
@@ -158,6 +163,7 @@ seats_given n [] timed a = tt
 seats_given n (word.Events seat times ∷ words) (some, timed) a = (first_there n times seat (given_words words) some a, seats_given n words timed (seats_behind n (replicate times (one_event seat)) (given_words words) a))
 seats_given n (word.Checkpoint ∷ words) timed a = seats_given n words timed a
 seats_given n (word.Finish ∷ words) timed a = absurd timed
+seats_given n (word.Drawn ∷ words) timed a = absurd timed
 
 -- one moment more gives as many events more as its word
 more_events : (ms : List Moment) (m : Moment) → events_in (busy_words (ms ++ m ∷ [])) ≡ events_in (busy_words ms) + events_in (busy_word m)

@@ -17,7 +17,7 @@ use Rattle.fs_script.specs.Script.{nothing_yet, with_word, has_finish, schedule_
 use Rattle.fs_script.specs.declared.limits.TheConstants.{EVENT_LIMIT}
 use Rattle.fs_script.specs.declared.script.Script.{Script}
 use Rattle.fs_script.specs.declared.script.Word.{Word}
-use Rattle.fs_script.specs.declared.script.Word.TheVariants.{Events, Finish, Checkpoint}
+use Rattle.fs_script.specs.declared.script.Word.TheVariants.{Events, Finish, Checkpoint, Drawn}
 use Rattle.fs_words.specs.Headers.{script_header, is_too_long}
 use Rattle.fs_script.proofs.HeaderLemmas.{script_in, short_script, lines_read, IsHeaded, headed_script, again}
 use Rattle.fs_script.proofs.LimitLemmas.{unfinished_more, unfinished_checkpoint, events_more, events_checkpoint}
@@ -136,6 +136,7 @@ are_texts names [] are there timed few = tt
 are_texts names (Events seat times ∷ words) are (here, there) (some, timed) few = (events_text names seat times are here (omega (arith, few)), are_texts names words are there timed (omega (arith, few)))
 are_texts names (Checkpoint ∷ words) are there timed few = (checkpoint_text, are_texts names words are there timed few)
 are_texts names (Finish ∷ words) are there timed few = absurd timed
+are_texts names (Drawn ∷ words) are there timed few = absurd timed
 
 words_again : (s : Script) (words : List Word) → AreNames s.names → has_finish s.words ≡ false → SeatsAreThere (length s.names) words → AreTimed words → events_in s.words + events_in words ≤ EVENT_LIMIT
     → schedule_line s (texts_of s.names words) ≡ Ok (record s { words = s.words ++ words })
@@ -151,6 +152,7 @@ words_again s (Checkpoint ∷ words) are unended there timed few =
     ∙ words_again (with_word s Checkpoint) words are (unfinished_checkpoint s.words ∙ unended) there timed (omega (arith, same, few))
     ∙ ap (λ ws. Ok (record s { words = ws })) (append_assoc s.words (Checkpoint ∷ []) words)
 words_again s (Finish ∷ words) are unended there timed few = absurd timed
+words_again s (Drawn ∷ words) are unended there timed few = absurd timed
 
 -- ---- the whole text
 

@@ -4,7 +4,7 @@ use Rattle.std.proofs.lemmas.List.{at_drop_more, at_drop_all, replicate-append-r
 use Rattle.fs_script.specs.declared.script.Word.{Word}
 use Rattle.fs_sched.specs.Schedules.{one_event}
 use Rattle.fs_sched.specs.Gives.{given_words, single_words}
-use Rattle.fs_script.specs.declared.script.Word.TheVariants.{Events, Finish, Checkpoint}
+use Rattle.fs_script.specs.declared.script.Word.TheVariants.{Events, Finish, Checkpoint, Drawn}
 use Rattle.fs_trace.specs.Traces.{AreWordTexts, word_text}
 use Rattle.fs_trace.specs.declared.script_text.TheConstants.{LINE_WIDTH}
 use Rattle.fs_trace.specs.code.WordTexts.{AddsWords, AreTimed, IsBehindLine, IsGapBehind}
@@ -32,12 +32,14 @@ timed_rest : (x : Word) (words : List Word) → AreTimed (x ∷ words) → AreTi
 timed_rest (Events seat times) words (some, a) = a
 timed_rest Checkpoint words a = a
 timed_rest Finish words a = absurd a
+timed_rest Drawn words a = absurd a
 
 pub timed_append : (xs ys : List Word) → AreTimed xs → AreTimed ys → AreTimed (xs ++ ys)
 timed_append [] ys a b = b
 timed_append (Events seat times ∷ xs) ys (some, a) b = (some, timed_append xs ys a b)
 timed_append (Checkpoint ∷ xs) ys a b = timed_append xs ys a b
 timed_append (Finish ∷ xs) ys a b = absurd a
+timed_append (Drawn ∷ xs) ys a b = absurd a
 
 pub timed_set : (words : List Word) (k : ℕ) (w : Word) → AreTimed (w ∷ []) → AreTimed words → AreTimed (set words k w)
 timed_set [] k w a b = tt
@@ -45,6 +47,7 @@ timed_set (x ∷ words) zero w a b = timed_append (w ∷ []) words a (timed_rest
 timed_set (Events seat times ∷ words) (suc k) w a (some, b) = (some, timed_set words k w a b)
 timed_set (Checkpoint ∷ words) (suc k) w a b = timed_set words k w a b
 timed_set (Finish ∷ words) (suc k) w a b = absurd b
+timed_set (Drawn ∷ words) (suc k) w a b = absurd b
 
 -- the texts so far, and those of what is left
 pub record AddsWordsOf (names : List (List ℕ)) (all rest : List Word) (width : ℕ) (old now : List ℕ) : Type 0 where

@@ -1,4 +1,5 @@
 pub mod Examples
 pub mod Faults
+pub mod Objects
 pub mod Traces
 pub mod code

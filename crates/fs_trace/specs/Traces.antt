@@ -84,6 +84,7 @@ abbrev pub word_text : List (List ℕ) → Word → List ℕ
 word_text names (word.Events seat times) = get_or names seat [] ++ times_text times
 word_text names word.Checkpoint = codes "!checkpoint"
 word_text names word.Finish = codes "finish"
+word_text names word.Drawn = codes "!drawn"
 
 -- what stands before a word: a space or a line feed
 abbrev pub IsGap : ℕ → Type 0

@@ -1,3 +1,4 @@
 pub mod LineTexts
 pub mod Mades
+pub mod ObjectTexts
 pub mod WordTexts

@@ -7,10 +7,14 @@ ghost use Rattle.fs_script.specs.Script.{script_of};
 ghost use Rattle.fs_sched.specs.Devices.{KeepsDevices, WritesBeginning};
 ghost use Rattle.fs_sched.specs.Runs.{IsFaultOfRun, ReachesStop};
 ghost use Rattle.fs_trace.specs.Faults.{HasTooManyEvents, IsFaultOfSchedule, IsTooLongWritten};
+ghost use Rattle.fs_trace.specs.Objects.{AreObjectsOf};
 ghost use Rattle.fs_trace.specs.Traces.{IsReadBack, IsScheduleOf, IsTraceOf};
 ghost use Rattle.fs_trace.specs.code.Mades.{MakesSchedule, MakesTrace};
+ghost use Rattle.fs_trace.specs.code.ObjectTexts.{MakesObjects};
 
 use crate::fault::ScheduleFault;
+use crate::object_text::object_text;
+use crate::objects::TraceObjects;
 use crate::script_text::{RunWords, script_text};
 use crate::trace_text::{TraceLines, trace_text};
 use fs_io::{Made, Sink, Source, transform};
@@ -52,6 +56,29 @@ pub fn trace_bytes(
     ensures fault { IfErr result (IsFaultOfRun schedule script.now) }
 {
     trace_of(alloc, script, schedule, every)
+}
+
+/// The trace of a script's run as objects, and how that ended.
+fn objects_of(
+    alloc: Global,
+    text: &[u8],
+    schedule: Schedule,
+    every: bool,
+) -> Result<Made<RunEnd>, RunFault>
+    ensures { MakesObjects schedule every text.now result }
+{
+    let script = script_in(alloc, text)?;
+    let Ok(page) = TraceObjects::new(alloc, &script.names) else {
+        return Err(RunFault::OutOfMemory);
+    };
+    let Ok(mut teller) = Teller::new(alloc, &script, every, page) else {
+        return Err(RunFault::OutOfMemory);
+    };
+    let ran = watch(alloc, &script, schedule, &mut teller)?;
+    match object_text(alloc, &script, teller, &ran.core) {
+        Ok(text) => Ok(Made { text, end: ran.end }),
+        Err(_) => Err(RunFault::OutOfMemory),
+    }
 }
 
 /// A script's text with the moments of its run as its words.
@@ -125,6 +152,55 @@ pub fn trace_script<R: Source, W: Sink>(
         |text| -> Result<Made<RunEnd>, RunFault>
             ensures { MakesTrace schedule every text.items result }
         { trace_of(alloc, text.as_slice(), schedule, every) },
+    );
+    match ended {
+        Ok(end) => Ok(end),
+        Err(failure) => Err(between(failure)),
+    }
+}
+
+/// Reads a script to its end, runs it by a schedule, and writes the trace of the run as objects of JSON, one a line: for each thread,
+/// for each event, or for each that tells something new, and for each checkpoint, for each call that did not return, and one with the
+/// tree and the counts of the run's own text. The answer says how many calls began, took their place and returned, in all pieces of
+/// the run. The text is made before its first byte is written.
+pub fn trace_objects<R: Source, W: Sink>(
+    alloc: Global,
+    reader: &mut R,
+    writer: &mut W,
+    schedule: Schedule,
+    every: bool,
+) -> Result<RunEnd, RunFault>
+    requires reads { R.failures reader.old < 2 ^ 64 - 1 }
+    requires writes { W.failures writer.old < 2 ^ 64 - 1 }
+
+    // What is written is the trace of a run of the script that was read.
+    ensures ran { IfOk result (λ end. (text : List ℕ)
+        × IfSome (R.remaining reader.old) (λ input. AreObjectsOf schedule every input end text)
+        × Appends (W.contents writer.old) (W.contents writer.new) text) }
+    ensures end { OnOk result (IsAtEnd (R.remaining reader.new)) }
+    ensures input { (f : ScriptFault) → result ≡ Err (RunFault.Input f)
+        → IfSome (R.remaining reader.old) (λ input. script_of input ≡ Err f) }
+    ensures full { result ≢ Err RunFault.Full }
+
+    // `UnderWay` comes where the script comes to a checkpoint while calls are under way; then it has no run.
+    ensures under_way { (call : ℕ) → result ≡ Err (RunFault.UnderWay call)
+        → IfSome (R.remaining reader.old) (λ input. ReachesStop schedule input (RunFault.UnderWay call)) }
+
+    // A device is blamed only where it failed in this call; after a failed write a beginning of the text stands, and after every
+    // other error nothing was written.
+    ensures devices { KeepsDevices R.failures W.failures reader.old reader.new writer.old writer.new
+        RunFault.Read RunFault.Write result }
+    ensures beginning { IsErrOf result RunFault.Write → (end : RunEnd) × (text : List ℕ)
+        × IfSome (R.remaining reader.old) (λ input. AreObjectsOf schedule every input end text)
+        × WritesBeginning text (W.contents writer.old) (W.contents writer.new) }
+{
+    let ended = transform(
+        alloc,
+        reader,
+        writer,
+        |text| -> Result<Made<RunEnd>, RunFault>
+            ensures { MakesObjects schedule every text.items result }
+        { objects_of(alloc, text.as_slice(), schedule, every) },
     );
     match ended {
         Ok(end) => Ok(end),

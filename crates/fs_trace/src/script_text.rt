@@ -190,6 +190,7 @@ fn word_text(alloc: Global, names: &ThreadNames, word: Word) -> Result<Vec<u8>, 
         }
         Word::Checkpoint => text.push(b"!checkpoint")?,
         Word::Finish => text.push(b"finish")?,
+        Word::Drawn => text.push(b"!drawn")?,
     }
     Ok(text.kept())
 }

@@ -9,8 +9,8 @@ ghost use Rattle.fs_story.specs.code.Waiting.{HasShown};
 ghost use Rattle.fs_trace.specs.Traces.{head_of, line_head, thread_line, IsTraceText};
 ghost use Rattle.fs_trace.specs.code.LineTexts.{AddsLine, HasLines, IsTraceHead, IsTraceStart};
 
+use crate::left::{Left, left_in};
 use crate::script_text::name_of;
-use fs_calls::Call;
 use fs_core::Core;
 use fs_sched::{counts_of, push_counts};
 use fs_script::{Script, ThreadNames, write_tree};
@@ -90,19 +90,22 @@ impl Page for TraceLines {
     }
 }
 
-/// The line of a call that did not return; the turn is that of a call that began, among those of its thread.
+/// The line of a call of a script that did not return.
 fn push_left(
     alloc: Global,
-    name: &[u8],
-    turn: Option<u64>,
-    call: &Call,
+    script: &Script,
+    left: Left,
     text: &mut Addition,
 ) -> Result<(), AllocError> {
+    let Some(call) = script.lists.of(left.seat).get(left.at) else {
+        return Ok(());
+    };
     text.push(b"left ")?;
-    text.push(name)?;
-    match turn {
-        Some(turn) => text.push_with_number(b"#", turn)?,
-        None => text.push(b" unbegun")?,
+    text.push(name_of(&script.names, left.seat))?;
+    if left.has_begun {
+        text.push_with_number(b"#", (left.at as u64).saturating_add(1))?;
+    } else {
+        text.push(b" unbegun")?;
     }
     let mut words = Vec::new(alloc);
     write_call(alloc, call, &mut words)?;
@@ -111,37 +114,12 @@ fn push_left(
     text.push(b"\n")
 }
 
-/// The lines of a thread's calls that did not return.
-fn push_left_of(
-    alloc: Global,
-    name: &[u8],
-    calls: &[Call],
-    standing: Standing,
-    text: &mut Addition,
-) -> Result<(), AllocError> {
-    if standing.call > 0 && standing.begun > 0 && standing.begun <= calls.len() {
-        push_left(
-            alloc,
-            name,
-            Some(standing.begun as u64),
-            &calls[standing.begun - 1],
-            text,
-        )?;
-    }
-    for at in standing.begun..calls.len() {
-        push_left(alloc, name, None, &calls[at], text)?;
-    }
-    Ok(())
-}
-
 /// The lines of all calls that did not return.
 fn left_text(alloc: Global, script: &Script, threads: &[Standing]) -> Result<Vec<u8>, AllocError> {
+    let all = left_in(alloc, script, threads)?;
     let mut text = Addition::new(Vec::new(alloc));
-    let lists = script.lists.as_slice();
-    for seat in 0..lists.len() {
-        if let (Some(name), Some(standing)) = (script.names.name(seat), threads.get(seat)) {
-            push_left_of(alloc, name, lists[seat].as_slice(), *standing, &mut text)?;
-        }
+    for left in &all {
+        push_left(alloc, script, *left, &mut text)?;
     }
     Ok(text.kept())
 }

@@ -96,7 +96,8 @@ fn check_text(alloc: Global, text: &[u8]) -> Result<Made<Checked>, RunFault>
     })
 }
 
-/// The line of the verdict on a journal in memory, as `check_journal` writes it. The journal is read where it stands.
+/// The line of the verdict on a journal in memory, as `check_journal` writes it. The journal is read without a copy of
+/// it.
 pub fn check_bytes(alloc: Global, journal: &[u8]) -> Result<Vec<u8>, RunFault>
     ensures line { IfOk result (λ line. (v : Verdict) × (verdict_of journal.now ≡ Ok v) × (line.items ≡ verdict_line v)) }
     ensures fault { IfErr result (IsFaultOf (verdict_of journal.now)) }

@@ -27,14 +27,14 @@ pub enum RunFault {
     /// A call was refused since all node numbers are in use.
     #[error("full")]
     Full,
-    /// The script asks for a checkpoint while calls are under way: the least of their numbers.
-    #[error("call {} under way", .0.get())]
+    /// The script asks for a checkpoint while calls are pending: the least of their numbers.
+    #[error("call {} is pending", .0.get())]
     UnderWay(CallNo),
 }
 
 impl RunFault {
-    /// The status of a program that this fault ended: 1 for a checkpoint while calls are under way, 3 for bad input, 4 where
-    /// memory or numbers ran out, 5 for a device that failed.
+    /// The status of a program that this fault ended: 1 for a checkpoint while calls are pending, 3 for bad input, 4 if
+    /// memory or numbers ran out, and 5 for a device that failed.
     pub fn status(&self) -> u8
         ensures { result ≡ status_of_fault self.now }
     {

@@ -13,15 +13,15 @@ use std::collections::BTreeMap;
 /// The most bytes of an entry, a call or a reply; of one that has more, the rest is left out.
 const MOST: usize = 240;
 
-/// The call of which an entry tells.
+/// The call of an entry.
 pub fn call_of(entry: &Entry) -> CallNo {
     match entry {
         Entry::Begin(number, _, _) | Entry::Commit(number) | Entry::Return(number, _) => *number,
     }
 }
 
-/// The reply that is due to a call of a journal: what the tree replies to it behind the calls that commit before. None where it
-/// does not commit.
+/// The reply that is due to a call of a journal: what the tree replies to it after the calls that commit before. None
+/// if it does not commit.
 pub fn due_reply(
     alloc: Global,
     journal: &Journal,
@@ -48,7 +48,7 @@ pub fn due_reply(
     Ok(None)
 }
 
-/// The lines of the entries of a journal, which of any version but the first stand behind its start tree.
+/// The lines of the entries of a journal. In any version but the first they come after its start tree.
 fn entry_lines(text: &[u8]) -> Result<Lines<'_>, ScriptFault> {
     let (first, mut lines) = Lines::behind_first(text)?;
     if is_word(first, b"atomfs-journal 1") {
@@ -64,7 +64,7 @@ fn entry_lines(text: &[u8]) -> Result<Lines<'_>, ScriptFault> {
     Ok(lines)
 }
 
-/// The number of the line of an entry, of which so many stand before it.
+/// The number of the line of an entry that comes after so many others.
 fn line_of(text: &[u8], place: usize) -> u64 {
     let Ok(mut lines) = entry_lines(text) else {
         return 0;
@@ -78,7 +78,7 @@ fn line_of(text: &[u8], place: usize) -> u64 {
     }
 }
 
-/// Adds bytes, of which no more than the most are told.
+/// Adds bytes, up to the most that are written.
 fn push_cut(bytes: &[u8], words: &mut Addition) -> Result<(), AllocError> {
     match bytes.get(..MOST) {
         Some(front) if bytes.len() > MOST => {
@@ -89,13 +89,13 @@ fn push_cut(bytes: &[u8], words: &mut Addition) -> Result<(), AllocError> {
     }
 }
 
-/// The entries of a journal up to the one at fault, with the text in which they stand.
+/// The entries of a journal up to the one at fault, with the text that has them.
 #[derive(Clone, Copy)]
 struct Before<'a> {
     alloc: Global,
     text: &'a [u8],
     journal: &'a Journal,
-    /// How many entries stand before the one at fault.
+    /// How many entries come before the one at fault.
     place: usize,
 }
 
@@ -169,7 +169,7 @@ impl<'a> Before<'a> {
         words.push_with_number(b" on seat ", seat.get())
     }
 
-    /// Adds words, and the earlier entry of which they tell.
+    /// Adds words, and the earlier entry that they are about.
     fn push_earlier(
         &self,
         told: &[u8],
@@ -237,7 +237,7 @@ impl<'a> Before<'a> {
     }
 }
 
-/// What is wrong with the entry of a journal behind so many others.
+/// What is wrong with the entry of a journal that comes after so many others.
 pub(crate) fn reason_of(
     alloc: Global,
     text: &[u8],

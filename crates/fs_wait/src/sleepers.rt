@@ -52,7 +52,7 @@ fn joined(queue: &Queue, node: NodeNo) -> Queue
     }
 }
 
-/// Whom a free node of a queue wakes, and the queue behind that.
+/// Whom a free node of a queue wakes, and the queue after that.
 fn woken(queue: &Queue, node: NodeNo) -> (Wake, Queue)
     ensures due { IsDue result.0 queue.now node }
     ensures enough { (other slept : ℕ) → Notes queue.now other slept → IsEnough result.0 node other slept }
@@ -105,7 +105,7 @@ impl Sleepers {
         self.queues[queue] = joined(&self.queues[queue], node);
     }
 
-    /// Whom a node wakes that is free. Whoever is told so wakes them, before anybody else comes to the queues.
+    /// Whom a free node wakes. The caller wakes them before anybody else comes to the queues.
     pub fn wake(&mut self, node: NodeNo) -> Wake
         ensures due { (queue : Queue) → slice_get self.old (node % 64) ≡ Some queue → IsDue result queue node }
         ensures enough { (sleeping : ℕ → ℕ) → Covers self.old sleeping → (other : ℕ) → other % 64 ≡ node % 64 → IsEnough result node other (sleeping other) }

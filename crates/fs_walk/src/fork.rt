@@ -13,9 +13,9 @@ use fs_names::{PATH_LIMIT, Path};
 use fs_nodes::{NodeNo, Store};
 use std::marker::Model;
 
-/// Two heads from a common directory on: one to the parent of a source path, and then one to the parent of a destination path.
-/// Each holds the node where it stands; after a step of either the one behind it is held too. The common directory is held all
-/// the time, and by neither head.
+/// Two heads from a common directory on: one to the parent of a source path, and then one to the parent of a
+/// destination path. Each holds the node where it is; after a step of either, the one that it left is held too. The
+/// common directory is held all the time, and by neither head.
 #[derive(Debug, Drop)]
 pub struct Fork {
     node: NodeNo,
@@ -91,7 +91,7 @@ impl Fork {
         self.dest
     }
 
-    /// The node that the last step of a head left behind, while it is held.
+    /// The node that the last step of a head left, while it is held.
     pub fn behind(&self) -> Option<NodeNo>
         ensures { result ≡ self.now.behind }
     {
@@ -105,10 +105,10 @@ impl Fork {
         self.source.walked > 0 || self.dest.walked > 0
     }
 
-    /// What it wants next, along the paths that it is lent, the same ones each time. What is behind is let go first. From a common
-    /// directory first the source head walks to the parent of the source path, then the destination head to that of the
-    /// destination path. It fails with ENOTDIR where a file has a name ahead or stands in the place of a parent,
-    /// and with ENOENT where a name is missing (POSIX.1-2017, XBD 4.13, Pathname Resolution).
+    /// What it wants next, along the paths that it is lent, the same ones each time. The node that was left is let go
+    /// first. From a common directory first the source head walks to the parent of the source path, then the
+    /// destination head to that of the destination path. It fails with ENOTDIR if a file has a name ahead or is in the
+    /// place of a parent, and with ENOENT if a name is missing (POSIX.1-2017, XBD 4.13, Pathname Resolution).
     pub fn next(&self, source: &Path, dest: &Path, store: &Store) -> Want
         ensures { result ≡ fork_want (graph_of store.now) source.now dest.now self.now }
     {
@@ -140,8 +140,8 @@ impl Fork {
         }
     }
 
-    /// The head that walks next has taken a node. Where it stood is behind then, if that is not the common directory. Where both
-    /// have arrived neither takes it: nothing changes, and it answers false.
+    /// The head that walks next has taken a node. The node where it was is left then, unless that is the common
+    /// directory. If both have arrived, neither takes it: nothing changes, and it answers false.
     pub fn took(&mut self, source: &Path, dest: &Path, node: NodeNo) -> bool
         ensures fork { self.new ≡ fork_took source.now dest.now self.old node }
         ensures took { result ≡ is_some (walking source.now dest.now self.old) }
@@ -154,7 +154,7 @@ impl Fork {
         true
     }
 
-    /// It lets the node go that is behind; another one changes nothing.
+    /// It lets the node go that it left; another one changes nothing.
     pub fn let_go(&mut self, node: NodeNo)
         ensures { self.new ≡ fork_left self.old node }
     {

@@ -15,7 +15,7 @@ pub enum Side {
     Dest,
 }
 
-/// Where a head stands: how many names it has walked from the common directory on, and its node.
+/// Where a head is: how many names it has walked from the common directory on, and its node.
 #[derive(Clone, Copy, Debug, PartialEq, Eq)]
 pub struct Head {
     pub walked: usize,
@@ -30,7 +30,7 @@ impl Head {
         Head { walked: 0, node }
     }
 
-    /// The node that it holds: where it stands, if that is not the common directory.
+    /// The node that it holds: the one where it is, if that is not the common directory.
     pub fn held(self) -> Option<NodeNo>
         ensures { result ≡ head_held self }
     {
@@ -41,7 +41,7 @@ impl Head {
         }
     }
 
-    /// It steps to a node, and gives the one that it held, which it leaves behind.
+    /// It steps to a node, and gives the one that it held, which it leaves.
     pub fn took(&mut self, node: NodeNo) -> Option<NodeNo>
         requires { self.old.walked < PATH_LIMIT }
         ensures head { self.new ≡ head_took self.old node }

@@ -1,13 +1,12 @@
-//! Walks by hand-over-hand locking: one head from the root along a path, or the two heads of a call on two entries from a
-//! common directory.
+//! Walks with hand-over-hand locking: one head goes from the root along a path, or two heads of a call on two entries from a common
+//! directory.
 //!
-//! A walk takes no lock and changes no store. `Walk::next` and `Fork::next` answer what it wants on the graph as it is
-//! now: to take a node, to let one go, that it has arrived, or the errno with which it fails. The caller does that, and
-//! tells the walk by `took` and `let_go`. No call allocates.
+//! A walk takes no lock and changes no store. `Walk::next` and `Fork::next` answer what it wants on the graph as it is now. It wants to
+//! take a node or to let one go, or it has arrived, or it fails with an errno. The caller does that, and reports it with `took` and
+//! `let_go`. No call allocates.
 //!
-//! Enter at `Walk::new` and `Walk::next`, for two heads at `Fork::new` and `Fork::next`; `find_path` goes along a path at
-//! once. The definitions are in `specs/`: `Ways` (where walks stand, and what a take and a let go make of them) and
-//! `Wants` (what they want next).
+//! Enter at `Walk::new` and `Walk::next`, for two heads at `Fork::new` and `Fork::next`; `find_path` goes along a path at once. In
+//! `specs/`, `Ways` says where walks are, and what a take and a let go make of them, and `Wants` what they want next.
 #![tactic(auto)]
 
 pub mod find;

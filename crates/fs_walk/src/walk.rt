@@ -11,8 +11,8 @@ use fs_names::{PATH_LIMIT, Path};
 use fs_nodes::{NodeNo, Store};
 use std::marker::Model;
 
-/// A walk from the root along so many first names of a path. It holds the node where it stands and, after a step, the one
-/// behind it; at first it holds nothing.
+/// A walk from the root along so many first names of a path. It holds the node where it is and, after a step, the one
+/// that it left; at first it holds nothing.
 #[derive(Debug, Drop)]
 pub struct Walk {
     names: usize,
@@ -53,23 +53,23 @@ impl Walk {
         self.names
     }
 
-    /// Where it stands. None: it holds nothing.
+    /// Where it is. None: it holds nothing.
     pub fn node(&self) -> Option<NodeNo>
         ensures { result ≡ self.now.node }
     {
         self.node
     }
 
-    /// The node behind it that it still holds.
+    /// The node that it left and still holds.
     pub fn behind(&self) -> Option<NodeNo>
         ensures { result ≡ self.now.behind }
     {
         self.behind
     }
 
-    /// What it wants next, along the path that it is lent, the same one each time: first the root, number 0; then to let go what
-    /// is behind it; then the node that the name ahead names. It fails with ENOTDIR where a file has a name ahead, and with
-    /// ENOENT where the name is missing (POSIX.1-2017, XBD 4.13, Pathname Resolution).
+    /// What it wants next, along the path that it is lent, the same one each time. First it wants the root, number 0;
+    /// then to let go of the node that it left; then the node that the name ahead names. It fails with ENOTDIR if a
+    /// file has a name ahead, and with ENOENT if the name is missing (POSIX.1-2017, XBD 4.13, Pathname Resolution).
     pub fn next(&self, path: &Path, store: &Store) -> Want
         ensures want { result ≡ want (graph_of store.now) path.now self.now }
         ensures within { self.now.walked ≤ self.now.names }
@@ -94,7 +94,8 @@ impl Walk {
         }
     }
 
-    /// It has taken a node: the root, or the one that the name ahead named. Where it stood stays behind it.
+    /// It has taken a node: the root, or the one that the name ahead named. The node where it was is left, and still
+    /// held.
     pub fn took(&mut self, node: NodeNo)
         requires { IsTrue (may_take self.old) }
         ensures { self.new ≡ way_took self.old node }
@@ -106,7 +107,7 @@ impl Walk {
         self.node = Some(node);
     }
 
-    /// It lets a node go that is behind it; another one changes nothing.
+    /// It lets a node go that it left; another one changes nothing.
     pub fn let_go(&mut self, node: NodeNo)
         ensures { self.new ≡ way_left self.old node }
     {

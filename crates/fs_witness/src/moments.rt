@@ -11,7 +11,7 @@ pub enum Answer {
     Spent,
     /// The next call of the thread began, and got this number.
     Begun(CallNo),
-    /// The call under way did a step.
+    /// The pending call did a step.
     Stepped(Stepped),
 }
 

@@ -1,4 +1,4 @@
-//! Who is told of a run.
+//! Who gets the moments of a run.
 
 ghost use Rattle.std.specs.Prelude.{◌∷◌, ◌++◌, [], List, OnOk};
 ghost use Rattle.fs_witness.specs.declared.moments.Moment.{Moment};
@@ -7,8 +7,8 @@ use crate::moments::Moment;
 use fs_core::Core;
 use std::alloc::AllocError;
 
-/// Who is told of a run's moments, and how far a runner is. What a runner reads, writes and answers does not depend on it, but for
-/// the memory that it asks for.
+/// Gets a run's moments, and how far a runner is. What a runner reads, writes and answers does not depend on it, but
+/// for the memory that it asks for.
 pub trait Witness {
     /// What it has become by these moments, by what it was first.
     ghost Told: { Self → Self → List Moment → Type 0 };
@@ -17,7 +17,7 @@ pub trait Witness {
     fn begins(&mut self, calls: usize)
         ensures told { (first : Self) (ms : List Moment) → Told first self.old ms → Told first self.new ms };
 
-    /// A moment came, and left the core so. An error ends the run, as want of memory does.
+    /// A moment came, and left the core so. An error ends the run, as running out of memory does.
     fn saw(&mut self, core: &Core, moment: Moment) -> Result<(), AllocError>
         ensures told { (first : Self) (before : List Moment) → Told first self.old before → OnOk result (Told first self.new (before ++ moment ∷ [])) };
 
@@ -30,7 +30,7 @@ pub trait Witness {
     fn has_run(&mut self, done: u64, runs: u64);
 }
 
-/// Nobody is told.
+/// Nobody gets the moments.
 #[derive(Clone, Copy, Debug)]
 pub struct Silent;
 

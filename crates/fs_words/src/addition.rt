@@ -94,7 +94,7 @@ impl Addition {
         self.push(buffer.format(number).as_bytes())
     }
 
-    /// Appends bytes as they are, and a number behind them. The only error is out of memory.
+    /// Appends bytes as they are, and a number after them. The only error is out of memory.
     pub fn push_with_number(&mut self, bytes: &[u8], number: u64) -> Result<(), AllocError>
         ensures ok { OnOk result (self.new.added ≡ self.old.added ++ bytes.now ++ decimal number) }
         ensures before { self.new.before ≡ self.old.before }
@@ -142,7 +142,7 @@ impl Addition {
         Ok(())
     }
 
-    /// Appends a slash and a name behind it, with escapes: a step of a path. The only error is out of memory.
+    /// Appends a slash and a name after it, with escapes: a step of a path. The only error is out of memory.
     pub fn push_step(&mut self, alloc: Global, name: &Name) -> Result<(), AllocError>
         ensures ok { OnOk result (self.new.added ≡ self.old.added ++ 47 ∷ escaped name.now) }
         ensures fits { OnOk result (IsName name.now) }
@@ -195,7 +195,8 @@ impl Addition {
     }
 }
 
-/// Puts a text back: with what was added behind it, or as it was where the addition failed. It answers what the addition did.
+/// Puts a text back: with what was added after it, or as it was if the addition failed. It answers what the addition
+/// did.
 pub fn put_back(
     added: Result<(), AllocError>,
     line: Addition,

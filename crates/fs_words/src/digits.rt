@@ -18,7 +18,7 @@ fn digit_of(value: u8) -> u8
     }
 }
 
-/// Writes the digits of bytes, two of each, over what stands there.
+/// Writes the digits of bytes, two of each, over what is there.
 fn write_digits(bytes: &[u8], text: &mut [u8])
     requires { length text.old ≡ 2 * length bytes.now }
     ensures { text.new ≡ encode_lower bytes.now }
@@ -30,7 +30,7 @@ fn write_digits(bytes: &[u8], text: &mut [u8])
     }
 }
 
-/// The same from a place on, over all that stands there.
+/// The same from a place on, over all that is there.
 fn write_from(bytes: &[u8], from: usize, text: &mut Vec<u8>)
     requires { length text.old.items ≡ from + 2 * length bytes.now }
     ensures { text.new.items ≡ take from text.old.items ++ encode_lower bytes.now }
@@ -86,7 +86,7 @@ fn value_of(digit: u8) -> u8
     }
 }
 
-/// Writes the bytes of digits, two for each, over what stands there.
+/// Writes the bytes of digits, two for each, over what is there.
 pub(crate) fn write_bytes(word: &[u8], bytes: &mut [u8])
     requires digits { list_all is_hex_digit word.now ≡ true }
     requires len { length word.now ≡ 2 * length bytes.old }

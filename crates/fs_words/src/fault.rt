@@ -42,7 +42,7 @@ pub enum FaultKind {
     /// What a call returned has another form than a reply, or holds a name that is none.
     #[error("BadReply")]
     BadReply,
-    /// The line stands where a journal has its start tree, and is none of it.
+    /// The line is in the place of a journal's start tree, and is none of its lines.
     #[error("BadStart")]
     BadStart,
 }

@@ -27,7 +27,7 @@ pub fn script_limits(line: &[u8]) -> Option<Limits>
         .find(|limits| is_word(line, script_header(*limits)))
 }
 
-/// The first line of a journal that tells its start tree.
+/// The first line of a journal that has its start tree.
 pub fn started_header(limits: Limits) -> &'static [u8]
     ensures { result.now ≡ started_header limits }
 {

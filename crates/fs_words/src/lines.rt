@@ -18,7 +18,7 @@ fn line_end(text: &[u8]) -> Option<usize>
     memchr(b'\n', text)
 }
 
-/// The line at the front and what is behind it, where there is one.
+/// The line at the front and what comes after it, if there is one.
 pub fn cut_line(text: &[u8]) -> Option<(&[u8], &[u8])>
     ensures { MatchOption result (lines_of text.now ≡ [])
         (λ p. (lines_of text.now ≡ p.0.now ∷ lines_of p.1.now) × (length p.1.now < length text.now)) }
@@ -61,7 +61,7 @@ pub fn push_item<T: Drop>(items: &mut Vec<T>, item: T) -> Result<(), FaultKind>
     }
 }
 
-/// Adds a word, unless it is empty: then a space stands where none may.
+/// Adds a word, unless it is empty: then there is a space where none may be.
 fn push_word<'a>(words: &mut Vec<&'a [u8]>, word: &'a [u8]) -> Result<(), FaultKind>
     ensures { Becomes result (map (λ w. w.now) words.new.items) (pushed_word (map (λ w. w.now) words.old.items) word.now) }
 {

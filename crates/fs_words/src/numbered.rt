@@ -1,4 +1,4 @@
-//! Lines of a text with their numbers, behind its header line.
+//! Lines of a text with their numbers, after its header line.
 
 ghost use Rattle.std.specs.Prelude.{◌≡◌, ◌<◌, Ok, Err, length, OnSome, MatchOption, MatchResult};
 ghost use Rattle.fs_words.specs.Reading.{headed, behind_header};
@@ -38,7 +38,7 @@ impl<'a> Model for Lines<'a> {
 }
 
 impl<'a> Lines<'a> {
-    /// The first line, and those behind it. A text that is too long is `TooLarge`, and one without lines has a
+    /// The first line, and those after it. A text that is too long is `TooLarge`, and one without lines has a
     /// `BadHeader`, both in line 1.
     pub fn behind_first(text: &'a [u8]) -> Result<(&'a [u8], Lines<'a>), ScriptFault>
         ensures { MatchResult result
@@ -60,7 +60,7 @@ impl<'a> Lines<'a> {
         }
     }
 
-    /// The lines behind the first one, which has to be this header. A text that is too long is `TooLarge`, and one that
+    /// The lines after the first one, which has to be this header. A text that is too long is `TooLarge`, and one that
     /// begins otherwise has a `BadHeader`, both in line 1.
     pub fn behind_header(text: &'a [u8], header: &[u8]) -> Result<Lines<'a>, ScriptFault>
         ensures { MatchResult result

@@ -125,8 +125,8 @@ impl<'a> Recent<'a> {
         }
     }
 
-    /// More slots, to which what stands in those that there are moves. Where there is no memory for them no more are asked
-    /// for: a text is read without.
+    /// More slots, to which what is in the present ones moves. If there is no memory for them, no more are asked for: a
+    /// text is read without.
     #[cold]
     fn grow(&mut self, alloc: Global) {
         let count = self.slots.len().saturating_mul(GROWTH);

@@ -21,7 +21,7 @@ use fs_names::{Bytes, Limits, Name, Path, PathFault};
 use percent_encoding::percent_decode;
 use std::alloc::Global;
 
-/// What stands before a place, and behind it.
+/// What comes before a place, and what comes after it.
 pub fn parts(bytes: &[u8], at: usize) -> (&[u8], &[u8])
     requires { at < length bytes.now }
     ensures front { result.0.now ≡ take at bytes.now }
@@ -38,7 +38,7 @@ pub fn is_word(word: &[u8], text: &[u8]) -> bool
     word.len() == text.len() && word == text
 }
 
-/// A number with one digit more behind it, where the byte is a digit and the number is below 2 ^ 64.
+/// A number with one digit more after it, if the byte is a digit and the number is below 2 ^ 64.
 fn with_digit(number: u64, byte: u8) -> Option<u64>
     ensures { MatchOption result (is_ascii_digit byte ≡ true → 2 ^ 64 ≤ number * 10 + (byte - 48))
         (λ n. (is_ascii_digit byte ≡ true) × (n ≡ number * 10 + (byte - 48)) × (n < 2 ^ 64)) }
@@ -125,7 +125,7 @@ fn path_fault(fault: PathFault) -> FaultKind
     }
 }
 
-/// Whether a word has no escape, and so stands for its own bytes.
+/// Whether a word has no escape, and so is its own bytes.
 fn is_unescaped(word: &[u8]) -> bool
     ensures { IsTrue result → percent_decode word.now ≡ word.now }
 {
@@ -191,7 +191,8 @@ fn read_name(alloc: Global, limits: Limits, bytes: &[u8]) -> Result<Name, FaultK
     }
 }
 
-/// The name that a word is by these limits, unescaped; else `BadReply`, since words that are names stand in replies alone.
+/// The name that a word is under these limits, unescaped; else `BadReply`, since words that are names occur in replies
+/// alone.
 pub fn name_at(alloc: Global, limits: Limits, word: &[u8]) -> Result<Name, FaultKind>
     ensures { Gives (λ name. name) result (name_at limits word.now) }
 {

@@ -1,4 +1,4 @@
-//! A number that stands for all answers of a job.
+//! A number for all answers of a job.
 
 use fs_calls::{NameList, Reply};
 use fs_names::Kind;

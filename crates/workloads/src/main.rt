@@ -1,9 +1,9 @@
-//! The jobs that users of AtomFS wait for, drawn from a number: `workloads JOB SEED` does one, and prints a digest of all that it
-//! was answered. `bench/workloads.txt` lists them, and `bench/run` times them. Without a word each is done in small. Those of one
-//! thread on a tree in memory are in `bench/trees.c`.
+//! The jobs that users of AtomFS wait for, drawn from a number: `workloads JOB SEED` does one, and prints a digest of all its answers.
+//! `bench/workloads.txt` lists them, and `bench/run` times them. Without a word it does each in small. Those of one thread on a tree in
+//! memory are in `bench/trees.c`.
 //!
-//! A job is done in rounds, each on a tree of its own and with calls that no other round has. `Drawing` draws numbers, names and
-//! bytes for it, and a `Digest` is a number for all its answers.
+//! A job is done in rounds, each on a tree of its own and with calls that no other round has. `Drawing` draws numbers, names and bytes for
+//! it, and a `Digest` is a number for all its answers.
 #![tactic(auto)]
 
 mod digest;
@@ -50,7 +50,7 @@ fn do_texts(alloc: Global, drawing: &mut Drawing, size: Size) -> Result<u64> {
     Ok(digest.value())
 }
 
-/// Two and four threads, in directories of their own and in one, and told calls.
+/// Two and four threads, in directories of their own and in one, and published calls.
 fn do_threads<R: Threads + Wait + Clock + Sync>(
     rt: &R,
     alloc: Global,
@@ -136,7 +136,7 @@ fn small<R: Print + Threads + Wait + Clock + Sync>(rt: &R, alloc: Global) -> Res
     Ok(())
 }
 
-/// The words behind the name of the program.
+/// The words after the name of the program.
 fn words(rt: &HostRuntime) -> Result<Vec<String>> {
     let mut words = Vec::new(rt.alloc());
     for word in env::args(rt)?.skip(1) {

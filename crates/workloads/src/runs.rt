@@ -7,7 +7,7 @@ use anyhow::{Result, bail};
 use fs_sched::{Device, Schedule, Silent, check_journal, run_script};
 use std::alloc::Global;
 
-/// The directories that the threads of a script share, each behind the one above it.
+/// The directories that the threads of a script share, each after the one above it.
 const DIRS: [&[u8]; 7] = [
     b"/home",
     b"/home/user",

@@ -1,4 +1,4 @@
-//! Real threads on one tree, and told calls whose caller then asks an observer.
+//! Real threads on one tree, and published calls whose caller then asks an observer.
 
 use crate::digest::Digest;
 use crate::drawing::Drawing;
@@ -103,7 +103,7 @@ impl Draft {
     }
 }
 
-/// The list of a thread whose files stand in a directory, which it makes or finds.
+/// The list of a thread whose files are in a directory, which it makes or finds.
 fn list(
     alloc: Global,
     drawing: &mut Drawing,

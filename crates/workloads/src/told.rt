@@ -1,4 +1,4 @@
-//! Told calls: each is published, and its caller has an observer show it.
+//! Calls that are published. After each, its caller has an observer show the path.
 
 ghost use Rattle.std.specs.Prelude.{◌≡◌, ◌^◌};
 
@@ -17,7 +17,7 @@ use std::time::Clock;
 /// How many files there are.
 const FILES: usize = 32;
 
-/// A told call, of which an observer then knows.
+/// A published call, of which an observer then knows.
 fn tell<N: Named, R: Wait + Clock>(
     rt: &R,
     alloc: Global,
@@ -94,7 +94,7 @@ fn planned(alloc: Global, drawing: &mut Drawing) -> Result<Plan> {
     Ok(plan)
 }
 
-/// Tells each of these calls.
+/// Publishes each of these calls and has an observer show it.
 fn tell_each<N: Named, R: Wait + Clock>(
     rt: &R,
     alloc: Global,
@@ -124,7 +124,7 @@ fn one_of(alloc: Global, drawing: &mut Drawing, files: &[Vec<u8>]) -> Result<Pat
     }
 }
 
-/// A told write to one of the files, which is looked at then.
+/// A published write to one of the files, which is looked at then.
 fn write_once<N: Named, R: Wait + Clock>(
     rt: &R,
     alloc: Global,
@@ -166,7 +166,7 @@ fn write_any<N: Named, R: Wait + Clock>(
     write_drawn(rt, alloc, session, observer, drawing, &path, digest)
 }
 
-/// So many told writes.
+/// So many published writes.
 fn writes<N: Named, R: Wait + Clock>(
     rt: &R,
     alloc: Global,
@@ -182,7 +182,7 @@ fn writes<N: Named, R: Wait + Clock>(
     Ok(())
 }
 
-/// The files, and so many told writes to them.
+/// The files, and so many published writes to them.
 fn run_on<N: Named, R: Wait + Clock>(
     rt: &R,
     alloc: Global,
@@ -252,7 +252,7 @@ fn on_named<N: Named, R: Wait + Clock>(
     value
 }
 
-/// So many told writes on a tree of its own.
+/// So many published writes on a tree of its own.
 pub fn run<R: Wait + Clock>(
     rt: &R,
     alloc: Global,

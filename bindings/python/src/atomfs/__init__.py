@@ -38,6 +38,7 @@ from ._library import NODE_LIMIT, PATH_LIMIT, Did, Limits, Status
 from ._library import library as _shared_object
 from ._linearize import Lawful, Linearized, NoHistory, NoOrder, Unknown, front, linearize
 from ._load import Snapshot, diff
+from ._orders import draw_history
 from ._page import Page
 from ._patch import patch
 from ._path import Path
@@ -108,6 +109,7 @@ __all__ = [
     "check",
     "diff",
     "draw",
+    "draw_history",
     "explain",
     "explore",
     "front",

@@ -390,6 +390,11 @@ class Functions:
     ) -> Byte:
         raise NotImplementedError
 
+    def page(
+        self, text: Bytes, length: Size, schedule: Byte, seed: Number, out: Room, room: Size, count: SizeAt
+    ) -> Byte:
+        raise NotImplementedError
+
     def schedule(
         self, script: Bytes, length: Size, schedule: Byte, seed: Number, out: Room, room: Size, count: SizeAt
     ) -> Byte:

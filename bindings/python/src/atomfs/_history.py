@@ -9,13 +9,30 @@ import errno
 import sys
 import threading
 import warnings
-from typing import TYPE_CHECKING, Any, ContextManager, Dict, Iterable, List, Mapping, Optional, Tuple, Type, Union
+from typing import (
+    TYPE_CHECKING,
+    Any,
+    ContextManager,
+    Dict,
+    Iterable,
+    List,
+    Literal,
+    Mapping,
+    Optional,
+    Tuple,
+    Type,
+    Union,
+    overload,
+)
 
 from ._errors import AnyPath, encoded
 from ._library import Call, Limits, library
 from ._linearize import Linearized, linearize
 from ._load import Snapshot
+from ._orders import draw_history
+from ._page import Page
 from ._script import AnyCall, planned, quoted
+from ._tools import Picture
 from ._values import Data, bytes_of, number_of
 
 if TYPE_CHECKING:
@@ -255,6 +272,22 @@ class History:
         Raises `ValueError` if this is not a history, and `MemoryError`.
         """
         return linearize(self.text(), limit)
+
+    @overload
+    def draw(self, limit: Optional[int] = None, *, html: Literal[False] = False) -> Picture:
+        ...
+
+    @overload
+    def draw(self, limit: Optional[int] = None, *, html: Literal[True]) -> Page:
+        ...
+
+    def draw(self, limit: Optional[int] = None, *, html: bool = False) -> Union[Picture, Page]:
+        """The picture of the calls so far in the order that `linearize` finds, or up to the return at fault. With `html` it is a page, as from the
+        function `draw_history`.
+
+        Raises `ValueError` if this is not a history, or if the search reaches its limit, and `MemoryError`.
+        """
+        return draw_history(self.text(), limit, html=html)
 
     def _read(self, call: str, words: Tuple[Any, ...]) -> Tuple[Call, str]:
         """A call and its line. No error of what is no call may look like one of the tree."""

@@ -1,7 +1,8 @@
 """A page that plays a run event by event: one file with all that it needs.
 
-`run.html` is the page without a run. What comes in are the run's picture, which is seen where scripts are off, and its text: the trace of a
-script's run, or a journal.
+`run.html` is the page without a run. Two texts come into it: the run's picture, which is seen where scripts are off, and the trace of a script's
+run, or a journal. Lines before the trace or the journal say more of it. Each begins with `# `: the verdict, what was found of a history, and which
+line of the caller's source made a call.
 """
 from __future__ import annotations
 
@@ -10,10 +11,9 @@ import functools
 import html
 import pathlib
 import re
-from typing import Tuple
+from typing import Sequence, Tuple
 
 from ._errors import StrPath
-from ._texts import check
 
 # How many pixels a page is high in a notebook.
 _HEIGHT = 720
@@ -48,10 +48,17 @@ class Page:
         return at
 
 
-def page_of(text: bytes, picture: str) -> Page:
-    """The page of a trace or a journal, with the picture of the same run."""
+def page_of(text: bytes, picture: str, notes: Sequence[bytes] = ()) -> Page:
+    """The page of a trace or a journal, with the picture of the same run, and with notes on it."""
     before, between, after = _parts()
-    return Page(before + picture + between + html.escape(_ascii(_judged(text)), quote=False) + after)
+    played = b"".join(b"# %s\n" % note.replace(b"\n", b" ") for note in notes) + text
+    return Page(before + picture + between + html.escape(_ascii(played), quote=False) + after)
+
+
+def source_note(number: int, source: str) -> bytes:
+    """The note that a line of source made the call of this number, counted by their begins."""
+    words = re.sub(rb"[^ -$&-~]", lambda found: b"%%%02X" % found[0][0], source.encode("utf-8", "backslashreplace"))
+    return b"source %d %s" % (number, words)
 
 
 @functools.lru_cache(maxsize=None)
@@ -65,8 +72,3 @@ def _parts() -> Tuple[str, str, str]:
 def _ascii(text: bytes) -> str:
     """A text in which each byte that is no printable character is escaped, as names are in texts."""
     return re.sub(rb"[^\n -~]", lambda found: b"%%%02X" % found[0][0], text).decode("ascii")
-
-
-def _judged(text: bytes) -> bytes:
-    """A journal with a line before it that has the verdict. A trace is as it was."""
-    return b"# %s\n%s" % (check(text).encode(), text) if text.startswith(b"atomfs-journal") else text

@@ -8,12 +8,12 @@ from __future__ import annotations
 import dataclasses
 import pathlib
 import re
-from typing import List, Literal, NamedTuple, Optional, Tuple, Union, overload
+from typing import List, Literal, NamedTuple, Optional, Sequence, Tuple, Union, overload
 
 from ._errors import Error, StrPath, error_of
 from ._library import By, Fault, Status, library
 from ._page import Page, page_of
-from ._texts import ROOM, Room
+from ._texts import ROOM, Room, check
 from ._values import bytes_of, number_of
 
 Text = Union[str, bytes]
@@ -124,9 +124,20 @@ def draw(
         return _picture(given, by, around)
     if around is not None:
         raise ValueError("a page plays the whole run: `around` is for a picture")
+    return _page(given, by)
+
+
+def page(text: str, notes: Sequence[bytes]) -> Page:
+    """The page of a journal, or of a script with its own schedule, with notes on it."""
+    return _page(_bytes_of(text, "draw"), _drawn(None, False), notes)
+
+
+def _page(given: bytes, by: Tuple[By, int], notes: Sequence[bytes] = ()) -> Page:
+    """The page that plays a text; before a journal a note has the verdict on it."""
     picture = _picture(given, by, None)
-    told = given if given.startswith(b"atomfs-journal") else _told("trace", given, *by, 0).encode("ascii")
-    return page_of(told, picture.svg)
+    if given.startswith(b"atomfs-journal"):
+        return page_of(given, picture.svg, [check(given).encode(), *notes])
+    return page_of(_told("trace", given, *by, 0).encode("ascii"), picture.svg, notes)
 
 
 def _picture(text: bytes, by: Tuple[By, int], around: Optional[int]) -> Picture:

@@ -1,4 +1,4 @@
-//! A told writer, and observers that read beside it.
+//! A writer that publishes, and observers that read beside it.
 
 use fs_calls::{Call, Data, Reply};
 use fs_names::{Kind, Path};
@@ -41,7 +41,7 @@ fn makings(alloc: Global) -> Option<Vec<Call>> {
     Some(calls)
 }
 
-/// Makes a call that is told. Whether it has a stamp.
+/// Makes a call and publishes it. Whether it has a stamp.
 fn is_told<N: Named, R: Wait + Clock>(
     rt: &R,
     alloc: Global,
@@ -54,7 +54,7 @@ fn is_told<N: Named, R: Wait + Clock>(
     }
 }
 
-/// Makes calls that are told, as far as they have stamps. Whether all have.
+/// Makes calls and publishes them, as far as they have stamps. Whether all have.
 fn are_told<N: Named, R: Wait + Clock>(
     rt: &R,
     alloc: Global,
@@ -83,7 +83,7 @@ fn make<N: Named, R: Wait + Clock>(rt: &R, alloc: Global, fs: &AtomFs<N>) -> Opt
     Some(tells(rt, alloc, fs, &calls))
 }
 
-/// A write to the file, told.
+/// A write to the file, published.
 fn writes_once<N: Named, R: Wait + Clock>(
     rt: &R,
     alloc: Global,
@@ -93,7 +93,7 @@ fn writes_once<N: Named, R: Wait + Clock>(
     Some(is_told(rt, alloc, session, &call))
 }
 
-/// Writes to the file, told each time, until no observer reads any more.
+/// Writes to the file, published each time, until no observer reads any more.
 fn writes_by<N: Named, R: Wait + Clock>(
     rt: &R,
     alloc: Global,

@@ -32,8 +32,8 @@ pub fn call<N: Named, R: Wait + Clock>(
     }
 }
 
-/// A session's told call. A refused one has counted nothing. Each call that has committed is of this session, so the call's place is
-/// known, whether it has a stamp or not.
+/// A session's published call. A refused one has counted nothing. Each call that has committed is of this session, so
+/// the call's place is known, whether it has a stamp or not.
 pub fn told<N: Named, R: Wait + Clock>(
     rt: &R,
     alloc: Global,

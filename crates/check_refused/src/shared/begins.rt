@@ -58,8 +58,8 @@ fn once_more<N: Named, M: Named, R: Wait>(
     }
 }
 
-/// A tree begins again under one name, and under the other where memory was refused. Whether it shows the empty directory
-/// `/a`, and what stands when it is closed.
+/// A tree begins again under one name, and under the other after memory was refused. Whether it shows the empty
+/// directory `/a`, and what is there when it is closed.
 pub fn begin_again<N: Named, M: Named, L: Named, R: Wait>(
     rt: &R,
     alloc: Global,

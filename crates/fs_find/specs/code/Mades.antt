@@ -10,7 +10,7 @@ use Rattle.fs_find.specs.declared.fault.FindFault.{FindFault}
 use Rattle.fs_find.specs.declared.what.Clause.{Clause}
 
 -- the script with the first run that has what is said; or why there is none
-pub record MakesFound (what : List Clause) (seed runs : ℕ) (input : List ℕ) (result : Result (Made (Option ℕ)) FindFault) : Type 0 where
+pub record MakesFound (what : List (List Clause)) (seed runs : ℕ) (input : List ℕ) (result : Result (Made (Option ℕ)) FindFault) : Type 0 where
   pub found : IfOk result (λ made. IsSearchOf what seed runs input made.end made.text.items)
   pub fault : IfErr result (IsFaultOfFind what seed runs input)
 

@@ -13,6 +13,8 @@ use Rattle.fs_calls.specs.Sights.{tree_shapes, shape_of, resolve, resolve_next}
 use Rattle.fs_calls.specs.declared.errno.Errno.{Errno}
 use Rattle.fs_calls.specs.declared.reply.Reply.{Reply}
 use Rattle.fs_calls.specs.declared.reply.Reply.TheVariants as answer
+use Rattle.fs_rows.specs.Rows.{node_of_kind}
+use Rattle.fs_flat.specs.declared.cell.Entry.{Entry}
 
 -- names that are lent, as names
 abbrev pub lent_names : List (Bor Name) → List Name
@@ -27,6 +29,10 @@ kind_of (File bytes) = kinds.File
 abbrev pub bytes_at : Node → List ℕ
 bytes_at Dir = []
 bytes_at (File bytes) = bytes
+
+-- the entry of a tree that an entry is
+abbrev pub entry_of : Entry → Key × Node
+entry_of e = (e.key.items, node_of_kind e.kind e.content)
 
 -- the node of an entry, if there is one
 abbrev pub node_in : Option (Key × Node) → Option Node

@@ -30,6 +30,6 @@ pub record MakesSeeds (seed runs : ℕ) (input : List ℕ) (result : Result (Mad
   pub fault : IfErr result (IsFaultOf (script_of input))
 
 -- that of the first run that has what is said; or why there is none
-pub record MakesFind (what : List Clause) (seed runs : ℕ) (input : List ℕ) (result : Result (Made (Option ℕ)) FindFault) : Type 0 where
+pub record MakesFind (what : List (List Clause)) (seed runs : ℕ) (input : List ℕ) (result : Result (Made (Option ℕ)) FindFault) : Type 0 where
   pub found : IfOk result (λ made. IsFoundOf what seed runs input made.end made.text.items)
   pub fault : IfErr result (IsFaultOfFind what seed runs input)

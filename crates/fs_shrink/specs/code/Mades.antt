@@ -12,13 +12,13 @@ use Rattle.fs_shrink.specs.Shrinks.{IsShrinkingOf}
 use Rattle.fs_shrink.specs.declared.shrinking.Shrunk.{Shrunk}
 
 -- why nothing is written of a script; what stays may be too long by the end of its last line, which the input need not have
-abbrev pub IsFaultOfShrink : List Clause → List ℕ → FindFault → Type 0
+abbrev pub IsFaultOfShrink : List (List Clause) → List ℕ → FindFault → Type 0
 IsFaultOfShrink what input (Schedule (Run fault)) = IsFaultOfRun Given input fault
 IsFaultOfShrink what input (Schedule TooManyEvents) = ⊥
 IsFaultOfShrink what input (Schedule TooLong) = Unit {0}
 IsFaultOfShrink what input NoCall = LacksCall what input
 
 -- the smallest script; or why there is none
-pub record MakesShrinking (what : List Clause) (input : List ℕ) (result : Result (Made (Option Shrunk)) FindFault) : Type 0 where
+pub record MakesShrinking (what : List (List Clause)) (input : List ℕ) (result : Result (Made (Option Shrunk)) FindFault) : Type 0 where
   pub shrunk : IfOk result (λ made. IsShrinkingOf what input made.end made.text.items)
   pub fault : IfErr result (IsFaultOfShrink what input)

@@ -21,6 +21,7 @@ AreTimed [] = Unit {0}
 AreTimed (word.Events seat times ∷ words) = (1 ≤ times) × AreTimed words
 AreTimed (word.Checkpoint ∷ words) = AreTimed words
 AreTimed (word.Finish ∷ words) = ⊥
+AreTimed (word.Drawn ∷ words) = ⊥
 
 -- all words of moments, where a script has room for them
 pub record AreAllWords (run : RunWords) (ms : List Moment) : Type 0 where

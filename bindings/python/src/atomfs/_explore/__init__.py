@@ -133,6 +133,7 @@ class Runner:
             ran.journal,
             ran.replies,
             events=events,
+            lines=[call.line for call in ran.calls],
             schedule=segments,
             drawn_switches=drawn_switches,
             trials=trials,

@@ -9,8 +9,9 @@ import re
 from typing import TYPE_CHECKING, Any, Callable, Dict, List, NamedTuple, Optional, Sequence, Tuple
 
 from .._texts import check as verdict_of
-from .._page import Page
+from .._page import Page, source_note
 from .._tools import Picture, draw
+from .._tools import page as page_with
 from .._tools import trace as traced
 
 if TYPE_CHECKING:
@@ -18,8 +19,8 @@ if TYPE_CHECKING:
 
 # By thread what its function returned or raised; of a list of calls, the reply of each, in which an error is as it would be raised.
 Replies = Dict[str, Any]
-# How many bytes of a call or a reply are shown, and how many lines of calls that never end.
-_SHOWN, _LINES = 70, 60
+# How many bytes of a call or a reply are shown, and how many lines of calls that never end; and of a line of source in a page.
+_SHOWN, _LINES, _IN_PAGE = 70, 60, 200
 
 
 class RunError(Exception):
@@ -75,8 +76,13 @@ class Event(NamedTuple):
         return f"{words}: {_cut(self.reply)}" if self.reply else f"{words} .. half-way"
 
 
-def _cut(words: str) -> str:
-    return words if len(words) <= _SHOWN else f"{words[:_SHOWN]}.."
+def _cut(words: str, most: int = _SHOWN) -> str:
+    return words if len(words) <= most else f"{words[:most]}.."
+
+
+def printable(words: str) -> str:
+    """Words for a terminal: a character that would move its cursor, or turn what is beside it, is escaped."""
+    return "".join(one if one.isprintable() else repr(one)[1:-1] for one in words)
 
 
 def without_addresses(value: object) -> str:
@@ -112,6 +118,8 @@ class ScheduleError(AssertionError):
         self.picture: Optional[pathlib.Path] = None
         #: Where it has written the page that plays the run, if it has.
         self.page_file: Optional[pathlib.Path] = None
+        # By call, in the order of their begins, which line made it.
+        self._lines: List[Optional[Line]] = more.get("lines", [])
         self._told = told
         self._again: Optional[Callable[[bool], ScheduleError]] = more.get("again")
         super().__init__("\n".join(self._message()))
@@ -122,7 +130,7 @@ class ScheduleError(AssertionError):
 
     def _values(self) -> Dict[str, Any]:
         return {
-            **{"events": self.events, "schedule": self.schedule},
+            **{"events": self.events, "schedule": self.schedule, "lines": self._lines},
             **{"drawn_switches": self.drawn_switches, "trials": self.trials},
         }
 
@@ -149,11 +157,13 @@ class ScheduleError(AssertionError):
         return draw(self.script or self.journal)
 
     def page(self) -> Page:
-        """The page that plays the run, event by event.
+        """The page that plays the run, event by event, with the line of the caller's source that made each call, where there is one.
 
         Raises `Error` if the run is too large for a picture.
         """
-        return draw(self.script or self.journal, html=True)
+        lines = [(number, line) for number, line in enumerate(self._lines, 1) if line is not None]
+        notes = [source_note(number, f"{line} {_cut(line.text, _IN_PAGE)}".rstrip()) for number, line in lines]
+        return page_with(self.script or self.journal, notes)
 
     @property
     def html(self) -> str:
@@ -192,7 +202,7 @@ def _switched(switches: int, drawn: int, trials: int) -> str:
 def told_events(events: Sequence[Event]) -> List[str]:
     """Events as lines: the thread, the line of the source, and the call with its reply."""
     shown = list(events[-_LINES:])
-    lines = [f"{one.line}  {one.line.text[:_SHOWN]}" if one.line else "" for one in shown]
+    lines = [printable(f"{one.line}  {one.line.text[:_SHOWN]}") if one.line else "" for one in shown]
     names, width = max((len(one.thread) for one in shown), default=0), max(map(len, lines), default=0)
     told = [f"  {one.thread:{names}}  {line:{width}}  {one}".rstrip() for one, line in zip(shown, lines)]
     more = len(events) - len(shown)

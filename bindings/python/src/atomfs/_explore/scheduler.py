@@ -11,7 +11,7 @@ from typing import Any, Callable, Dict, List, Optional, Tuple
 
 from .._library import Call, Limits
 from .draws import Drawing
-from .errors import BudgetError, DeadlockError, Line, PatienceError, RunError, ThreadError
+from .errors import BudgetError, DeadlockError, Line, PatienceError, RunError, ThreadError, printable
 from .runs import Called, Look
 
 _allocate: Callable[[], Any] = _thread.allocate_lock
@@ -67,7 +67,7 @@ def line_of(frame: Optional[FrameType]) -> Optional[Line]:
 
 
 def _at(line: Optional[Line]) -> str:
-    return f" at {line}: {line.text}" if line is not None else ""
+    return printable(f" at {line}: {line.text}") if line is not None else ""
 
 
 class Thread:

@@ -1,8 +1,9 @@
 use borrow.Author.Count.{below_more}
-use Rattle.std.proofs.Common.{◌∙◌, ℕ, arith}
+use Rattle.std.proofs.Common.{◌∙◌, ℕ, ap, arith}
+use Rattle.fs_laws.specs.StepsLeft.{steps_left}
 use Rattle.fs_core.specs.CoreValues.{state_of}
 use Rattle.fs_embed.specs.Calls.{StandsStill}
-use Rattle.fs_embed.proofs.Progress.{at_rest, still_from}
+use Rattle.fs_embed.proofs.Progress.{at_rest, nothing_left, still_from}
 use Rattle.fs_embed.proofs.calls.step_any.Goals as goal
 
 pub loop-number-preserved : goal.loop-number-preserved
@@ -21,3 +22,8 @@ returns-clause-never_stuck c = (
       (λ k below. c.loop-number.invariant.still k (omega arith)),
   c.loop-number.invariant.same,
 )
+
+pub returns-clause-fewer : goal.returns-clause-fewer
+returns-clause-fewer c =
+    ap steps_left c.loop-number.invariant.same
+    ∙ nothing_left c.args.core.now c.told_of_progress.ensures.never_stuck c.told_of_progress.ensures.determined (λ k below. c.loop-number.invariant.still k (omega arith))

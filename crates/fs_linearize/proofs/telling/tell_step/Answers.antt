@@ -1,7 +1,7 @@
 use Rattle.std.proofs.Common.{◌≡◌, List, ◌++◌, ◌∷◌, [], subst, sym, ap, ◌∙◌}
 use Rattle.fs_timeline.specs.declared.entry.Entry.{Entry}
 use Rattle.fs_linearize.specs.code.Tellings.{IsEntryFor, TellsOn}
-use Rattle.fs_linearize.specs.declared.steps.Step.{Step}
+use Rattle.fs_configurations.specs.declared.steps.Step.{Step}
 use Rattle.fs_linearize.proofs.TellingLemmas.{tells_pass}
 use Rattle.fs_linearize.proofs.telling.tell_step.Goals as goal
 

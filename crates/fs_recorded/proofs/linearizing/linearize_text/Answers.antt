@@ -11,4 +11,4 @@ pub returns : goal.returns
 returns g c =
     let lines = c.in_ok-lines.ensures.ok in
     subst (λ (given : Result (Start × List Heard) ScriptFault). MakesFound given c.args.limit c.args.front c.linearize_lines.result)
-    (within c.args.text.now (words_in c.deref.result.now) lines.0 (ap words_in c.deref.ensures.value ∙ lines.1)) c.linearize_lines.ensures
+    (within c.args.dialect.now c.args.text.now (words_in c.deref.result.now) lines.0 (ap words_in c.deref.ensures.value ∙ lines.1)) c.linearize_lines.ensures

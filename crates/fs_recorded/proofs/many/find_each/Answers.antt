@@ -9,7 +9,7 @@ pieces-preserved g c =
     let count = c.piece_length-count.result in
     record {
       within = within_more lines at count c.pieces.invariant.within c.piece_length-count.ensures.most;
-      told = step_told _ at count c.args.limit lines (take (length lines - at) (drop at lines)) (take count (take (length lines - at) (drop at lines)))
+      told = step_told c.args.dialect.now _ at count c.args.limit lines (take (length lines - at) (drop at lines)) (take count (take (length lines - at) (drop at lines)))
           c.pieces.told.outcomes.items c.push_piece.new.told.outcomes.items c.pieces.told.text.items c.push_piece.new.told.text.items
           (rest_all at lines) refl c.piece_length-count.ensures.most c.piece_length-count.ensures.cut c.pieces.invariant.told c.in_ok-push_piece.ensures.ok;
     }

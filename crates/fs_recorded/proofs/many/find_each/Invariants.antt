@@ -7,7 +7,7 @@ use Rattle.fs_recorded.proofs.many.find_each.Given as goal
 abbrev pub invariant-pieces : goal.invariant-pieces
 invariant-pieces g l = record {
   within : l.at ≤ length l.lines;
-  told : AreToldFrom (histories_by 0 (pieces_of (words_in l.lines))) (histories_by l.at (pieces_of (words_in (drop l.at l.lines)))) l.limit l.told.outcomes.items l.told.text.items;
+  told : AreToldFrom (histories_by l.dialect 0 (pieces_of (words_in l.lines))) (histories_by l.dialect l.at (pieces_of (words_in (drop l.at l.lines)))) l.limit l.told.outcomes.items l.told.text.items;
 }
 
 abbrev pub decreases-pieces : goal.decreases-pieces

@@ -8,4 +8,4 @@ pub returns : goal.returns
 returns g c =
     let lines = c.in_ok-lines.ensures.ok in
     subst (λ (given : Given). MakesMany given c.args.limit c.linearize_lines.result)
-    (many_by c.args.text.now (words_in c.deref.result.now) lines.0 (ap words_in c.deref.ensures.value ∙ lines.1)) c.linearize_lines.ensures
+    (many_by c.args.dialect.now c.args.text.now (words_in c.deref.result.now) lines.0 (ap words_in c.deref.ensures.value ∙ lines.1)) c.linearize_lines.ensures

@@ -17,5 +17,6 @@ returns c = record {
   helped_mkdir = refl;
   waiting_victim = refl;
   checkpoints = refl;
+  drawn_race = refl;
   empty_block = refl;
 }

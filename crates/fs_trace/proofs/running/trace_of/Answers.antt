@@ -1,3 +1,4 @@
+use Rattle.fs_trace.specs.code.LineTexts.{HasLines}
 use Rattle.fs_trace.proofs.Lining.{lines_none}
 use Rattle.fs_trace.proofs.Making.{told_all, trace_made}
 use Rattle.fs_trace.proofs.running.trace_of.Goals as goal
@@ -10,7 +11,7 @@ returns-in-Ok-trace_text c =
     let new = c.watch.new.witness in
     let ran = c.in_ok-ran.ran in
     let watched = c.in_ok-ran.ensures.watches in
-    let has = told_all c.args.every c.args.schedule script start old new ran (c.in-Ok-new.ensures start (lines_none start)) watched in record {
+    let has = told_all HasLines c.args.every c.args.schedule script start old new ran (c.in-Ok-new.ensures start (lines_none start)) watched in record {
       trace = trace_made c.args.schedule c.args.every c.args.text.now c.in-Ok-trace_text.text.items script old new ran c.in_ok-script.ensures.script watched
           (c.in-Ok-trace_text.ensures c.args.every start watched.moments c.in-Ok.ensures has);
       fault = tt;
