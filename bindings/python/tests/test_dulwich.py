@@ -13,8 +13,8 @@ import atomfs
 from test_patch import AT, OfPatch, written
 
 try:
-    from dulwich import porcelain
-    from dulwich.repo import Repo
+    from dulwich import porcelain  # type: ignore[import]
+    from dulwich.repo import Repo  # type: ignore[import]
 except ImportError:  # Debian's python3-dulwich
     porcelain = None  # type: ignore[assignment]
 
