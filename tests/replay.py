@@ -231,7 +231,7 @@ class Rows(Case):
                         ("--before 00#1", WRONG, Outcome(2, b"", NO_CALL)),
                         ("--before m#3", PIECES, Outcome(2, b"", NO_CALL)),
                         ("--before #1", PIECES, Outcome(2, b"", NO_CALL)),
-                        # Of a run in pieces the last one is asked about, in which calls are counted from 1 again.
+                        # A run with checkpoints has pieces. The command asks about the last one, where calls are counted from 1 again.
                         ("--at 0", PIECES, Outcome(0, TWO)),
                         ("--at 1", PIECES, Outcome(0, BOTH)),
                         ("--at 2", PIECES, Outcome(2, b"", b"atomfs: the run has no commit 2\n")),

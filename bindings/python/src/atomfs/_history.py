@@ -219,7 +219,7 @@ class History:
     to error numbers, or to None for an error that this tree does not have. Such an error ends the block, and is in `answer.error`. After a timeout, a
     broken connection or any other exception, which is raised on, the call stays pending: it may have taken effect, or not.
 
-    Record one thread first: what nothing explains there is another kind of tree, and no race.
+    Record a single thread first. If even that has no explanation, the tree follows other rules, and you have not found a race.
     """
 
     def __init__(
