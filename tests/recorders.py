@@ -403,6 +403,14 @@ class Launched(Recorder):
         )
         self.each(((f"{row[0]} {row[1] or 'alone'}", *row) for row in rows), self.look)
 
+    def test_half_a_peer(self) -> None:
+        """`javap` ends with status 0 where it finds some of several classes, so each is asked for by itself."""
+        self.stand_in("javap", 0)
+        path = self.folder / "javap"
+        path.write_text(path.read_text().replace("exit", 'case "$*" in *Jimfs*Pre*) ;; *Jimfs*) exit 1 ;; esac\nexit'))
+        wanted = "examples/record/record: Jimfs is missing: apt-get install libjimfs-java\n"
+        self.same("java", self.launched("java"), (2, "", wanted))
+
     def test_ends(self) -> None:
         """The recorder's status is the launcher's, and nothing is left of what was built."""
         self.stand_in("python3", 7)
