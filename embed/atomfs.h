@@ -555,7 +555,7 @@ uint8_t atomfs_seeds(const char *script, size_t length, uint64_t seed, uint64_t 
  * TOO_SMALL *found is one of the numbers ATOMFS_FOUND_.
  *
  * limit bounds the search: it makes so many configurations, or few more. It is 1 to 1,000,000,000; the command uses
- * 10,000,000. A search may take long, and asking again searches again. So give out twice the length of the history.
+ * 1,000,000. A search may take long, and asking again searches again. So give out twice the length of the history.
  *
  * Returns OK, TOO_SMALL, NO_MEMORY; BAD_CHOICE if tell or limit is not valid; and the faults of a journal. */
 uint8_t atomfs_linearize(const char *history, size_t length, uint64_t limit, uint8_t tell, char *out, size_t room,

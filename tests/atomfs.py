@@ -103,7 +103,7 @@ class Library:
         """The lines of so many drawn runs of a script."""
         return self.text(lambda *told: self.atomfs_seeds(script, len(script), seed, runs, *told))
 
-    def linearize(self, history: bytes, tell: int = Tell.LINE, limit: int = 10_000_000) -> tuple[typing.Any, bytes]:
+    def linearize(self, history: bytes, tell: int = Tell.LINE, limit: int = 1_000_000) -> tuple[typing.Any, bytes]:
         """What came of a history, and the text of it."""
         found = ctypes.c_uint8()
         text = self.text(lambda *told: self.atomfs_linearize(history, len(history), limit, tell, *told, found))

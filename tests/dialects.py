@@ -10,10 +10,11 @@ import tempfile
 import typing
 import unittest
 
+import documents
 import harness
 import model
 from harness import Case, Outcome, run, takes_a_process
-from histories import BEGUN, ERRORS, HEADER, Entry, Start, has_order, history, line_of, text_of
+from histories import BEGUN, ERRORS, HEADER, STARTS, Entry, Start, call, has_order, history, line_of, returned, text_of
 
 DRAWN = 300
 # A row of a table: a call, what this tree replies, and what the other one does; and one such error.
@@ -94,6 +95,10 @@ def failing() -> dict[tuple[str, str], str]:
 
 
 FAILING = failing()
+
+# Each error, and how many histories of one thread are drawn, in so many texts.
+ALL_ERRORS = *ERRORS, "ENOSPC", "EFBIG", "EOVERFLOW"
+LEARNED, TEXTS = 2_000, 20
 
 
 def each_of(rows: typing.Iterable[Row]) -> set[Differs]:
@@ -189,6 +194,147 @@ class Widened(Case):
     def test_drawn(self) -> None:
         harness.asks_of_answers()
         self.each(((f"drawn {seed}", seed) for seed in range(DRAWN)), self.look)
+
+
+def alone(draw: random.Random, rows: list[Row]) -> tuple[Start, list[Entry], list[Differs]]:
+    """What one thread of another tree recorded: the lines before the entries and these, and the rows by which the trees differ.
+
+    That tree replies errors of a table. Now and then a reply is open, or the last call is pending.
+    """
+    entries: list[Entry] = []
+    differ: list[Differs] = []
+    start = draw.choice(STARTS)
+    tree, last = model.started(list(start))[0], draw.randint(1, 8)
+    theirs = {(name, ours): errors for name, ours, errors in rows}
+    for number in range(1, last + 1):
+        words = call(draw)
+        reply = tree.apply(words)
+        ours = reply.removeprefix("failed ")
+        entries.append(("begin", number, draw.randrange(3), words))
+        known = theirs.get((words[0], ours))
+        if number == last and not draw.randrange(4):
+            break
+        if known and draw.randrange(4):
+            told = draw.sample(known, draw.randint(1, len(known)))
+            differ += [(words[0], ours, error) for error in told]
+            entries.append(("return", number, "failed " + "|".join(told)))
+        else:
+            entries.append(("return", number, returned(draw, reply)))
+    return start, entries, differ
+
+
+def learned(rows: list[Differs]) -> bytes:
+    """The table of rows: each once, in the order of the calls and the errors, with how often it was seen."""
+    lines = [TABLE]
+    for name, ours in itertools.product(CALLS, ALL_ERRORS):
+        seen = [error for error in ALL_ERRORS if (name, ours, error) in rows]
+        if seen:
+            counts = "".join(f" {error} {rows.count((name, ours, error))}" for error in seen)
+            lines += [f"# times:{counts}", f"{name} {ours} {'|'.join(seen)}"]
+    return text_of(lines)
+
+
+class Learned(Case):
+    """`--learn` proposes the rows that explain what one thread recorded."""
+
+    def came(self, *lines: str) -> Outcome:
+        return run(text_of((HEADER, *lines)), "linearize", "--learn")
+
+    def look(self, seed: int) -> None:
+        """Many histories in one text: the rows of all, by which each of them has an order."""
+        draw = random.Random(f"learned {seed}")
+        differ: list[Differs] = []
+        rows, text = drawn_table(draw), b""
+        for _ in range(LEARNED // TEXTS):
+            start, entries, more = alone(draw, rows)
+            differ += more
+            text += text_of((*start, *map(line_of, entries)))
+        came = run(text, "linearize", "--learn", *draw.choice(((), ("--many",))))
+        self.same(text, came, Outcome(0, learned(differ)))
+        file = in_file(f"learned_{seed}", came.output)
+        told = run(text, "linearize", "--many", "--as", file).output.splitlines()[-1]
+        self.same(text, told, b"lawful %d none 0 fault 0 unknown 0" % (LEARNED // TEXTS))
+
+    def test_drawn(self) -> None:
+        """What is proposed of 2,000 histories is what they differ by, and --as accepts them by it."""
+        harness.asks_of_answers()
+        self.each(((f"learned {seed}", seed) for seed in range(TEXTS)), self.look)
+
+    def test_rows(self) -> None:
+        wanted = learned(
+            [("unlink", "EPERM", "EISDIR")] * 2 + [("unlink", "EPERM", "EBUSY"), ("mkdir", "EEXIST", "ENOSPC")]
+        )
+        first = "begin 1 0 mkdir /a", "return 1 ok", "begin 2 1 unlink /a", "return 2 failed EISDIR"
+        second = "begin 3 0 mkdir /a", "return 3 failed ENOSPC", "begin 4 0 unlink /a", "return 4 failed EISDIR|EBUSY"
+        open_ones = (
+            "begin 5 0 rmdir /b",
+            "return 5 failed ?",
+            "begin 6 0 stat /a",
+            "return 6 stat dir ?",
+            "begin 7 0 stat /",
+            "return 7 ?",
+        )
+        self.same("a table", self.came(*first, *second, *open_ones, "begin 8 0 rmdir /a"), Outcome(0, wanted))
+        self.same("nothing", self.came(), Outcome(0, text_of((TABLE,))))
+        self.same("no difference", self.came(*first[:2]), Outcome(0, text_of((TABLE,))))
+
+    def test_page(self) -> None:
+        """The example of docs/COMMANDS.md, and what it says that this writes."""
+        command, table = documents.blocks(documents.COMMANDS)[1:]
+        text = harness.match_in(r"\Aprintf '(.*)' \| atomfs linearize --learn\n\Z", command)[1].replace("\\n", "\n")
+        self.same(command, run(text.encode(), "linearize", "--learn"), Outcome(0, table.encode()))
+
+    def test_unexplained(self) -> None:
+        """Where one of two calls succeeds, or both do otherwise, learning ends: the line is said, and what was learned before it stays."""
+        row = "begin 1 0 unlink /", "return 1 failed EISDIR"
+        table = learned([("unlink", "EPERM", "EISDIR")])
+        behind = "begin 3 0 rmdir /b", "return 3 failed ENOTDIR"
+        for call, told, ours in (
+            ("rmdir /a", "ok", "failed ENOENT"),
+            ("mkdir /a", "failed EEXIST", "ok"),
+            ("stat /", "stat dir 1", "stat dir 0"),
+            ("readdir /", "stat dir 0", "names"),
+            ("mkdir /a", "failed ?", "ok"),
+            ("mkdir /a", "failed EEXIST|ENOENT", "ok"),
+            ("mkdir /a", "stat dir ?", "ok"),
+        ):
+            message = f"atomfs: line 5: return 2 {told}; call 2 is {call} on seat 0\natomfs: no row explains it: this tree replies {ours}\n"
+            came = self.came(*row, f"begin 2 0 {call}", f"return 2 {told}", *behind)
+            self.same(call, came, Outcome(1, table, message.encode()))
+
+    def test_others_go_on(self) -> None:
+        """What is not explained of one history keeps nothing of another one from being learned."""
+        one = HEADER, "begin 1 0 rmdir /a", "return 1 ok"
+        other = HEADER, "begin 1 0 unlink /", "return 1 failed EISDIR"
+        came = run(text_of(one * 23 + other), "linearize", "--learn", "--many")
+        lines = came.message.splitlines()
+        self.same("a table", came[:2], (1, learned([("unlink", "EPERM", "EISDIR")])))
+        self.same("the messages", (len(lines), lines[-1]), (41, b"atomfs: and 3 more"))
+
+    def test_refused(self) -> None:
+        """Calls that overlap are refused with the line, and nothing is written; entries that are no history are named."""
+        pending = "another call is pending: --learn reads histories of one thread each"
+        none = "the entries up to there are no history"
+        first = "begin 1 0 unlink /", "return 1 failed EISDIR"
+        rows = (
+            ("begin 3 1 stat /", "call 3 is stat / on seat 1", 2, pending),
+            ("begin 2 1 stat /", "call 2 is stat / on seat 0", 1, none),
+            ("begin 3 0 stat /", "call 3 is stat / on seat 0", 1, none),
+            ("return 1 ok", "call 1 is unlink / on seat 0", 1, none),
+            ("return 4 ok", "no call 4 has begun", 1, none),
+        )
+        for line, words, status, why in rows:
+            came = self.came(*first, "begin 2 0 stat /", line)
+            message = f"atomfs: line 5: {line}; {words}\natomfs: {why}\n".encode()
+            self.same(line, came, Outcome(status, b"" if status == 2 else text_of((TABLE,)), message))
+        both = text_of((HEADER, *first, HEADER, "begin 1 0 stat /", "begin 2 1 stat /"))
+        self.same("one of two", run(both, "linearize", "--learn")[:2], (2, b""))
+        self.same("no histories", run(b"", "linearize", "--learn"), Outcome(0, text_of((TABLE,))))
+        self.same(
+            "a bad line",
+            run(text_of((HEADER, *first, HEADER, "x")), "linearize", "--learn").message.splitlines()[0],
+            b"atomfs: line 5: BadLine",
+        )
 
 
 class Tables(Case):

@@ -149,11 +149,13 @@ PACKAGES = {language: ROOT / "bindings" / language / "README.md" for language in
 
 
 def example_for(command: str, *options: str) -> bytes:
-    """The worked example as a command reads it: its script, the journal of its run, or that without commits; for `--core` a history without an order."""
+    """The worked example as a command reads it: its script, the journal of its run, or that without commits; for `--core` a history without an order, for `--learn` one of one thread."""
     if command.startswith("shrink"):
         return BY_ROBIN
     if "--core" in options:
         return b"atomfs-journal 1\nbegin 1 0 mkdir /a\nbegin 2 1 mkdir /a\nreturn 1 ok\nreturn 2 ok\n"
+    if "--learn" in options:
+        return b"atomfs-journal 1\nbegin 1 0 mkdir /a\nreturn 1 ok\n"
     if command not in ("check", "linearize"):
         return HELPED.with_suffix(".script").read_bytes()
     lines = HELPED.with_suffix(".text").read_bytes().splitlines(keepends=True)
@@ -442,7 +444,7 @@ class Shown(Page):
         ("docs/RATTLE.md", "rust", 2, "tests/documents.py"),
         ("docs/READING-LIST.md", "", 1, "tests/documents.py"),
         ("docs/FORMATS.md", "", 2, "tests/documents.py"),
-        ("docs/COMMANDS.md", "", 1, "tests/progress.py"),
+        ("docs/COMMANDS.md", "", 3, "tests/progress.py, tests/dialects.py"),
         ("docs/PICTURES.md", "", 2, "tests/objects.py"),
         ("docs/PLAYER.md", "python", 1, "tests/tutorials.py"),
         ("docs/TEST-A-FILE-SYSTEM.md", "", 4, "tests/histories.py, tests/recorders.py"),
@@ -978,6 +980,7 @@ class EachCommand(Page):
         "TREE": str(DATA / "starts" / "moved.tree"),
         **dict.fromkeys(("SCRIPT", "A", "B", "C"), "examples/one_name.script"),
         "none.history": "-",
+        "alone.history": "-",
     }
     # What stands for an input.
     INPUTS = None, "FILE", "SCRIPT", "INPUT", "A", "kept.script"

@@ -408,7 +408,7 @@ class Histories(harness.Case):
 
     FORMS = (atomfs.Tell.LINE, ()), (atomfs.Tell.FRONT, ("--front",)), (atomfs.Tell.WORDS, ())
     FOUND = {b"none": atomfs.Found.NO_ORDER, b"fault": atomfs.Found.NO_HISTORY, b"unknown": atomfs.Found.UNKNOWN}
-    DRAWN, LIMITS = 100, (1, 2, 3, 10_000_000)
+    DRAWN, LIMITS = 100, (1, 2, 3, 1_000_000)
 
     def written(self, given: bytes, limit: int, tell: typing.Any, words: typing.Sequence[str]) -> object:
         """What the program writes, as the library is to answer it."""
@@ -421,7 +421,9 @@ class Histories(harness.Case):
             else self.FOUND.get(came.output.split(b" ")[0], atomfs.Found.NO_ORDER)
         )
         self.came.add((tell, found))
-        return found, came.output + (re.sub(rb"(?m)^atomfs: ", b"", came.message) if tell == atomfs.Tell.WORDS else b"")
+        # How to go on the program says by the name of its option.
+        said = tell == atomfs.Tell.WORDS and found != atomfs.Found.UNKNOWN
+        return found, came.output + (re.sub(rb"(?m)^atomfs: ", b"", came.message) if said else b"")
 
     def look(self, given: bytes, limit: int) -> None:
         for tell, words in self.FORMS:

@@ -236,6 +236,8 @@ def could(*replies: str) -> str:
 
 
 HEADER = "atomfs-journal 1"
+# What standard error says where a search made as many configurations as it may.
+LIMIT = b"atomfs: the limit was reached: give a larger one with --limit N\n"
 BEGUN = HEADER, "begin 1 0 mkdir /a", "begin 2 1 stat /a"
 ROWS = {
     "an empty history": refused((HEADER,), b"atomfs-journal 1\n", 0),
@@ -521,7 +523,7 @@ class Histories(harness.Case):
                 (
                     "one that is not known",
                     (started, none),
-                    Outcome(4, b"lawful 1\nunknown 3\nlawful 1 none 0 fault 0 unknown 1\n"),
+                    Outcome(4, b"lawful 1\nunknown 3\nlawful 1 none 0 fault 0 unknown 1\n", LIMIT),
                     ("--limit", "3"),
                 ),
                 (
@@ -530,7 +532,7 @@ class Histories(harness.Case):
                     Outcome(
                         1,
                         b"unknown 3\nfault 3 SeatBusy\nlawful 0 none 0 fault 1 unknown 1\n",
-                        b"atomfs: history 2, line 9: begin 3 1 stat /; call 3 is stat / on seat 1\n",
+                        b"atomfs: history 2, line 9: begin 3 1 stat /; call 3 is stat / on seat 1\n" + LIMIT,
                     ),
                     ("--limit", "2"),
                 ),
@@ -550,9 +552,9 @@ class Histories(harness.Case):
         )
 
     def test_limit(self) -> None:
-        """At one configuration nothing is known."""
+        """At one configuration nothing is known, and standard error says how to go on."""
         given = text_of((*BEGUN, "return 2 stat dir 1"))
-        self.same(given, run(given, "linearize", "--limit", "1"), Outcome(4, b"unknown 2\n"))
+        self.same(given, run(given, "linearize", "--limit", "1"), Outcome(4, b"unknown 2\n", LIMIT))
 
     def test_meeting(self) -> None:
         """What meets neither the call that returns nor one that meets it is not tried: each such call would double the configurations."""

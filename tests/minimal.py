@@ -224,7 +224,7 @@ class Rows(Case):
                 (
                     "a limit",
                     text_of((*BEGUN, "return 2 stat dir 1")),
-                    Outcome(4, b"", b"atomfs: the limit was reached at entry 2: give a larger one with --limit\n"),
+                    Outcome(4, b"", b"atomfs: the limit was reached at entry 2: give a larger one with --limit N\n"),
                     "--limit",
                     "1",
                 ),

@@ -566,6 +566,19 @@ class Words(Case):
                     "linearize --many --core",
                     misused("the argument '--many' cannot be used with '--core'", "linearize [OPTIONS] [FILE]"),
                 ),
+                *(
+                    (
+                        f"linearize --learn {other}",
+                        misused(f"the argument '--learn' cannot be used with '{name}'", "linearize [OPTIONS] [FILE]"),
+                    )
+                    for other, name in (
+                        ("--front", "--front"),
+                        ("--core", "--core"),
+                        ("--as linux", "--as <TREE>"),
+                        ("--failing x", "--failing <DIR>"),
+                        ("--limit 7", "--limit <N>"),
+                    )
+                ),
                 (
                     "linearize --many --many",
                     misused("the argument '--many' cannot be used multiple times", "linearize [OPTIONS] [FILE]"),

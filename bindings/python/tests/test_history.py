@@ -108,7 +108,7 @@ class Linearize(unittest.TestCase):
     def test_not_drawn(self) -> None:
         none = BEGUN + "return 2 stat dir 1\n"
         rows: Tuple[Tuple[Type[Exception], str, Tuple[Any, ...]], ...] = (
-            (ValueError, "the search reached its limit: unknown 2", (none, 1)),
+            (ValueError, "the search reached its limit, so give a larger one: unknown 2", (none, 1)),
             (ValueError, "this is no history: fault 3 SeatBusy", (BEGUN + "begin 3 1 stat /\n",)),
             (Error, "line 1: BadHeader: ", ("",)),
             (TypeError, "bytes-like", (7,)),

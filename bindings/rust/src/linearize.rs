@@ -6,7 +6,7 @@ use crate::texts::{ascii, told_in, ROOM};
 use std::fmt;
 
 /// So many configurations are made if no limit is given.
-const CONFIGURATIONS: u64 = 10_000_000;
+const CONFIGURATIONS: u64 = 1_000_000;
 
 /// The result for a history. As text it is the verdict: `lawful`, `none 3 2`, `fault 3 SeatBusy`, `unknown 3`.
 #[derive(Clone, Debug, PartialEq, Eq)]
@@ -33,7 +33,7 @@ pub enum Linearized {
         /// What it says, with its line, and which call it is.
         words: String,
     },
-    /// The limit was reached.
+    /// The limit was reached. With a larger one the search goes on.
     Unknown {
         /// The place of the entry to which the search had come, counted from 1.
         place: u64,
@@ -56,7 +56,7 @@ impl fmt::Display for Linearized {
 ///
 /// A history is a journal without its lines `commit`, in which `return 3 failed ?` fits any error of call 3, and
 /// `return 3 stat dir ?` any number of entries. The search makes at most `limit` configurations: 1 to 1,000,000,000,
-/// and 10,000,000 with `None`. `ErrorKind::BadText` has the line at which the text is not a history.
+/// and 1,000,000 with `None`. `ErrorKind::BadText` has the line at which the text is not a history.
 /// `ErrorKind::BadChoice` says that there is no such limit.
 ///
 /// ```

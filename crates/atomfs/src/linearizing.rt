@@ -4,12 +4,14 @@ ghost use Rattle.std.specs.Prelude.{◌-◌, ◌<◌, ◌^◌};
 
 use fs_arguments::{Histories as Asked, Recorded};
 use fs_command::{
-    Kept, Line, Screen, report_file, report_linearize, report_many, report_minimized, report_table,
-    report_unopened, report_unwritten,
+    Kept, Line, Screen, report_file, report_learned, report_linearize, report_many,
+    report_minimized, report_table, report_unopened, report_unwritten,
 };
 use fs_dialects::{Dialect, known_table, read_dialect};
 use fs_minimal::{Minimized, minimize_history};
-use fs_recorded::{Failing, Histories, Linearized, Untold, linearize_history, linearize_many};
+use fs_recorded::{
+    Failing, Histories, Linearized, Untold, learn_histories, linearize_history, linearize_many,
+};
 use fs_sched::{Device, RunFault, Sink, Source};
 use fs_start::whole_text;
 use std::alloc::Global;
@@ -227,6 +229,10 @@ pub(crate) fn linearize<T: Clock + Files, R: Source, W: Sink, E: Write>(
         Asked::Core => {
             let outcome = minimize_shown(rt, alloc, reader, writer, &dialect, limit, screen);
             report_minimized(errors, &reader.seen, outcome)
+        }
+        Asked::Learn => {
+            let outcome = learn_histories(alloc, reader, writer);
+            report_learned(errors, &reader.seen, outcome)
         }
         Asked::Whole | Asked::Front => {
             let front = histories == Asked::Front;

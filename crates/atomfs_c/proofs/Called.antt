@@ -9,8 +9,8 @@ use Rattle.fs_embed.specs.declared.calls.NotBegun.{NotBegun}
 use Rattle.fs_embed.specs.declared.calls.NotReturned.{NotReturned}
 use Rattle.fs_embed.specs.declared.calls.NotReturned.TheVariants as not_returned
 use Rattle.fs_embed.specs.Statuses.{IsReturned, IsRefusal, IsToldWhy, begin_status}
-use Rattle.atomfs_c.specs.Exports.{Goes, ToldIfClosed, IsCalled, IsReplied, Comes}
-use Rattle.fs_embed.specs.declared.status.TheConstants.{WAITS, CLOSED}
+use Rattle.atomfs_c.specs.Exports.{Goes, ToldIfClosed, IsCalled, IsBegun, IsReplied, Comes}
+use Rattle.fs_embed.specs.declared.status.TheConstants.{OK, WAITS, CLOSED}
 
 -- what is so of two cores is so of the handles that have them
 pub goes : (P : CoreValue → CoreValue → Type 0) (before after : Option CoreValue) (old new : CoreValue) → before ≡ Some old → after ≡ Some new → P old new → Goes P before after
@@ -32,7 +32,25 @@ not_waits status returned at = let e : status ≡ 3 = at in let b : 128 ≤ stat
 pub not_refused : (status : ℕ) → IsReturned status → IsRefusal status → ⊥
 not_refused status returned is = let a : 4 < status = is.above in let b : status < 128 = is.below in let c : 128 ≤ status = returned (omega (arith, a)) in omega (arith, b, c)
 
+-- a refusal is no status of a call that began, nor of a closed handle
+not_ok : (status : ℕ) → IsRefusal status → status ≡ OK → ⊥
+not_ok status is at = let e : status ≡ 0 = at in let above : 4 < status = is.above in omega (arith, e, above)
+
+refusal_open : (status : ℕ) → IsRefusal status → status ≡ CLOSED → ⊥
+refusal_open status is at = let e : status ≡ 4 = at in let above : 4 < status = is.above in omega (arith, e, above)
+
 module _ (most : Option ℕ) (given : Asked) (seat number : ℕ) (old new : Option CoreValue) where
+  -- a call that did not begin
+  pub not_begun : (a b : CoreValue) → old ≡ Some a → new ≡ Some b → (why : NotBegun) (status : ℕ) → After most (λ x y. IsNotBegun x seat given why y) a b → status ≡ begin_status why → IsRefusal status → IsBegun most given seat status number old new
+  not_begun a b is_old is_new why status came told is = record {
+    begun = λ at. absurd (not_ok status is at);
+    refused = λ r. there;
+    closed = stays_open (After most (λ x y. (w : NotBegun) × (status ≡ begin_status w) × IsNotBegun x seat given w y)) status old new there (refusal_open status is);
+  }
+    where
+      there : Goes (After most (λ x y. (w : NotBegun) × (status ≡ begin_status w) × IsNotBegun x seat given w y)) old new
+      there = goes (After most (λ x y. (w : NotBegun) × (status ≡ begin_status w) × IsNotBegun x seat given w y)) old new a b is_old is_new (came.0, came.1, (why, told, came.2))
+
   -- a call that returned, and whose reply is told
   pub called : (Told : Reply → Type 0) (status : ℕ) (reply : Reply) → Comes most given seat (Ok reply) number old new → Told reply → IsReturned status → IsCalled most given seat Told status number old new
   called Told status reply came told is = record {

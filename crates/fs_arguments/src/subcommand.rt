@@ -17,7 +17,7 @@ use fs_sched::{RUN_LIMIT, SEED_LIMIT, Schedule};
 use std::alloc::{AllocError, Global};
 
 /// How many configurations `linearize` makes where no limit is given.
-pub const CONFIGURATIONS: u64 = 10_000_000;
+pub const CONFIGURATIONS: u64 = 1_000_000;
 
 /// What is written of histories.
 #[derive(Clone, Copy, Debug, PartialEq, Eq)]
@@ -30,6 +30,8 @@ pub enum Histories {
     Many,
     /// Of one without an order the calls that show it.
     Core,
+    /// Of those of one thread each the table of errors that explains them.
+    Learn,
 }
 
 /// When words are written in colours.
@@ -392,11 +394,15 @@ fn drawing_of<'a>(matches: &ArgMatches<'a>) -> Drawing
 
 /// What is written of histories.
 fn histories_of<'a>(matches: &ArgMatches<'a>) -> Histories
-    ensures many { one_text (found_of matches.now) (codes "many") ≡ Some (codes "true") → result ≡ Histories.Many }
-    ensures front { one_text (found_of matches.now) (codes "many") ≡ Some (codes "false") → one_text (found_of matches.now) (codes "front") ≡ Some (codes "true") → result ≡ Histories.Front }
-    ensures core { one_text (found_of matches.now) (codes "many") ≡ Some (codes "false") → one_text (found_of matches.now) (codes "front") ≡ Some (codes "false") → one_text (found_of matches.now) (codes "core") ≡ Some (codes "true") → result ≡ Histories.Core }
-    ensures whole { one_text (found_of matches.now) (codes "many") ≡ Some (codes "false") → one_text (found_of matches.now) (codes "front") ≡ Some (codes "false") → one_text (found_of matches.now) (codes "core") ≡ Some (codes "false") → result ≡ Histories.Whole }
+    ensures learn { one_text (found_of matches.now) (codes "learn") ≡ Some (codes "true") → result ≡ Histories.Learn }
+    ensures many { one_text (found_of matches.now) (codes "learn") ≡ Some (codes "false") → one_text (found_of matches.now) (codes "many") ≡ Some (codes "true") → result ≡ Histories.Many }
+    ensures front { one_text (found_of matches.now) (codes "learn") ≡ Some (codes "false") → one_text (found_of matches.now) (codes "many") ≡ Some (codes "false") → one_text (found_of matches.now) (codes "front") ≡ Some (codes "true") → result ≡ Histories.Front }
+    ensures core { one_text (found_of matches.now) (codes "learn") ≡ Some (codes "false") → one_text (found_of matches.now) (codes "many") ≡ Some (codes "false") → one_text (found_of matches.now) (codes "front") ≡ Some (codes "false") → one_text (found_of matches.now) (codes "core") ≡ Some (codes "true") → result ≡ Histories.Core }
+    ensures whole { one_text (found_of matches.now) (codes "learn") ≡ Some (codes "false") → one_text (found_of matches.now) (codes "many") ≡ Some (codes "false") → one_text (found_of matches.now) (codes "front") ≡ Some (codes "false") → one_text (found_of matches.now) (codes "core") ≡ Some (codes "false") → result ≡ Histories.Whole }
 {
+    if matches.get_flag("learn") {
+        return Histories::Learn;
+    }
     if matches.get_flag("many") {
         return Histories::Many;
     }

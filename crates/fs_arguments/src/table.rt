@@ -361,6 +361,13 @@ const LINEARIZE: Row = Row {
             help: "Reads each error that is returned by the table of TREE, as below",
         },
         Argument {
+            name: "learn",
+            form: Form::Flag,
+            need: Need::Never,
+            conflicts: &["front", "core", "as", "failing", "limit"],
+            help: "Reads histories of one thread each, and writes a table for --as that explains them",
+        },
+        Argument {
             name: "failing",
             form: Form::Text("DIR"),
             need: Need::Never,
@@ -372,7 +379,7 @@ const LINEARIZE: Row = Row {
             form: Form::Number("N", 1, CONFIGURATION_LIMIT),
             need: Need::Never,
             conflicts: &[],
-            help: "At most so many configurations in the search, 1 to 1000000000; without this option 10000000",
+            help: "At most so many configurations in the search, 1 to 1000000000; without this option 1000000",
         },
         COLOR,
         FILE,

@@ -127,11 +127,12 @@ pub(crate) const LINEARIZE_STATUSES: &str = "\
 A history is a journal without its `commit` lines, up to the end or a line `tree`. If a reply is not known, `return N ?` fits any reply, `return N failed ?` any error, `return N failed ENOENT|ENOTDIR` one of these, and `return N stat dir ?` any size.
 With --as each error that is returned may also be what this tree replies there, by rows `CALL OURS THEIRS`. TREE is posix, linux, afero, jimfs, pyfilesystem or fsspec, or a file with a line `atomfs-dialect 1` and rows.
 With --core the command writes a history without an order. Standard error says how many calls it has, of how many, after how many trials.
+With --learn each return is compared with what this tree replies. Two different errors make a row. If one of the two calls succeeds, or both do with different replies, no row explains it, and the rest of that history is left out.
 
 Exit status:
-  0  the journal that is written explains the history: `atomfs check` says that it is lawful; with --many each history is lawful; with --core the calls that show it are written
-  1  `none PLACE CALL`: no journal explains the entries up to the return at PLACE, or with --front a journal up to there; or `fault PLACE KIND`: they are no history
-  2  usage error, or with --core a journal explains the history
+  0  the journal that is written explains the history: `atomfs check` says that it is lawful; with --many each history is lawful; with --core the calls that show it are written; with --learn rows explain each history
+  1  `none PLACE CALL`: no journal explains the entries up to the return at PLACE, or with --front a journal up to there; or `fault PLACE KIND`: they are no history; or with --learn no row explains a return
+  2  usage error, or with --core a journal explains the history, or with --learn two calls overlap
   3  the input is no history: `atomfs explain` says what to write instead; or the file TREE is no table
   4  `unknown PLACE`: the limit was reached; or out of memory
   5  a read or a write failed

@@ -13,6 +13,9 @@ use Rattle.fs_recorded.specs.declared.answer.Linearized.{Linearized}
 use Rattle.fs_recorded.specs.declared.answer.Outcome.{Outcome}
 use Rattle.fs_recorded.specs.declared.answer.Outcome.TheVariants as outcome
 use Rattle.fs_recorded.specs.declared.many.Histories.{Histories}
+use Rattle.fs_recorded.specs.declared.learning.Learned.{Learned}
+use Rattle.fs_recorded.specs.declared.learning.Learning.{Learning}
+use Rattle.fs_recorded.specs.declared.learning.Learning.TheVariants as learning
 use Rattle.fs_replay.specs.Faults.{status_of_replay}
 use Rattle.fs_replay.specs.declared.fault.ReplayFault.{ReplayFault}
 use Rattle.fs_replay.specs.declared.running.Replayed.{Replayed}
@@ -68,6 +71,16 @@ status_of_minimized (Ok minimized.Lawful) = 2
 status_of_minimized (Ok (minimized.Fault place kind)) = 1
 status_of_minimized (Ok (minimized.Unknown place)) = 4
 status_of_minimized (Err fault) = status_of_fault fault
+
+-- success if rows explain each history, 2 if calls of one overlap, else 1
+abbrev pub status_of_learning : Learning → ℕ
+status_of_learning learning.Explained = 0
+status_of_learning learning.Unexplained = 1
+status_of_learning learning.Overlapping = 2
+
+abbrev pub status_of_learned : Result Learned RunFault → ℕ
+status_of_learned (Ok told) = status_of_learning told.outcome
+status_of_learned (Err fault) = status_of_fault fault
 
 -- whether one of them came to this status
 abbrev pub has_status : ℕ → List Outcome → Bool

@@ -18,8 +18,8 @@ pub use progress::{Erasing, Line, Screen, SharedLine};
 pub use seen::{Kept, Seen};
 pub use status::{
     report, report_asserted, report_check, report_draw, report_fault, report_file, report_find,
-    report_from, report_linearize, report_many, report_minimized, report_picture, report_schedule,
-    report_shrink, report_table, report_trace, report_tree, report_unopened, report_unwritten,
-    report_words, status_of_run, status_of_unreadable_args, status_of_usage, status_of_verdict,
-    tell_reading,
+    report_from, report_learned, report_linearize, report_many, report_minimized, report_picture,
+    report_schedule, report_shrink, report_table, report_trace, report_tree, report_unopened,
+    report_unwritten, report_words, status_of_run, status_of_unreadable_args, status_of_usage,
+    status_of_verdict, tell_reading,
 };

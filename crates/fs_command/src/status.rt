@@ -3,7 +3,7 @@
 ghost use Rattle.std.specs.Prelude.{◌≡◌, ◌≢◌, ◌⊎◌};
 ghost use Rattle.std.specs.IoError.{error_kind};
 ghost use Rattle.clap.specs.Values.{kind_of};
-ghost use Rattle.fs_command.specs.Statuses.{has_status, status_of, status_of_asserted, status_of_checked, status_of_drawn, status_of_found, status_of_linearized, status_of_many, status_of_minimized, status_of_outcome, status_of_outcomes, status_of_replayed, status_of_run, status_of_scheduled, status_of_shrunk, status_of_started, status_of_table, status_of_traced, status_of_verdict, status_of_words};
+ghost use Rattle.fs_command.specs.Statuses.{has_status, status_of, status_of_asserted, status_of_checked, status_of_drawn, status_of_found, status_of_learned, status_of_learning, status_of_linearized, status_of_many, status_of_minimized, status_of_outcome, status_of_outcomes, status_of_replayed, status_of_run, status_of_scheduled, status_of_shrunk, status_of_started, status_of_table, status_of_traced, status_of_verdict, status_of_words};
 ghost use Rattle.fs_sched.specs.Faults.{status_of_fault};
 
 use crate::input::words_of;
@@ -16,7 +16,7 @@ use fs_entries::Traced;
 use fs_find::{FindFault, WhatFault};
 use fs_litmus::{Assertion, Quantifier, all_hold};
 use fs_minimal::Minimized;
-use fs_recorded::{Histories, Linearized, Outcome};
+use fs_recorded::{Histories, Learned, Learning, Linearized, Outcome};
 use fs_replay::{ReplayFault, Replayed};
 use fs_sched::{Checked, RunEnd, RunFault};
 use fs_shrink::{Shrunk, TRIAL_LIMIT};
@@ -107,8 +107,16 @@ fn status_of_outcome(outcome: Outcome) -> u8
     }
 }
 
+/// Writes how a search goes on that reached its limit.
+fn tell_limit<E: Write>(errors: &mut E) {
+    let _ = writeln!(
+        errors,
+        "atomfs: the limit was reached: give a larger one with --limit N"
+    );
+}
+
 /// The status that a history came to, or that of its fault, whose message is written. Of `none` and `fault` the message
-/// says which entry that is, and of which call, and of `none` what the call could have replied.
+/// says which entry that is, and of which call, and of `none` what the call could have replied; of `unknown` how to go on.
 pub fn report_linearize<E: Write>(
     errors: &mut E,
     seen: &Seen,
@@ -121,6 +129,9 @@ pub fn report_linearize<E: Write>(
         Err(fault) => return report(errors, seen, Err(ThreadsFault::Run(fault))),
     };
     tell(errors, told.reason.as_slice());
+    if let Outcome::Unknown = told.outcome {
+        tell_limit(errors);
+    }
     status_of_outcome(told.outcome)
 }
 
@@ -157,6 +168,9 @@ pub fn report_many<E: Write>(
         Err(fault) => return report(errors, seen, Err(ThreadsFault::Run(fault))),
     };
     tell(errors, told.notes.words.as_slice());
+    if has_status(4, told.outcomes.as_slice()) {
+        tell_limit(errors);
+    }
     status_of_outcomes(told.outcomes.as_slice())
 }
 
@@ -196,7 +210,7 @@ fn tell_minimized<E: Write>(errors: &mut E, told: Minimized) {
         }
         Minimized::Unknown(place) => writeln!(
             errors,
-            "atomfs: the limit was reached at entry {place}: give a larger one with --limit"
+            "atomfs: the limit was reached at entry {place}: give a larger one with --limit N"
         ),
     };
 }
@@ -221,6 +235,33 @@ pub fn report_minimized<E: Write>(
         Minimized::Fault(_, _) => 1,
         Minimized::Unknown(_) => 4,
     }
+}
+
+fn status_of_learning(outcome: Learning) -> u8
+    ensures { result ≡ status_of_learning outcome }
+{
+    match outcome {
+        Learning::Explained => 0,
+        Learning::Unexplained => 1,
+        Learning::Overlapping => 2,
+    }
+}
+
+/// The status of what is learned of histories, or of their fault, whose message is written. The message says which returns no row
+/// explains, and which calls overlap.
+pub fn report_learned<E: Write>(
+    errors: &mut E,
+    seen: &Seen,
+    outcome: Result<Learned, RunFault>,
+) -> u8
+    ensures { result ≡ status_of_learned outcome }
+{
+    let told = match outcome {
+        Ok(told) => told,
+        Err(fault) => return report(errors, seen, Err(ThreadsFault::Run(fault))),
+    };
+    tell(errors, told.words.as_slice());
+    status_of_learning(told.outcome)
 }
 
 /// The status of a run from the tree in a file, or of its fault, whose message is written. A fault of the tree comes

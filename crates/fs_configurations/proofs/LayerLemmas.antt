@@ -6,7 +6,7 @@ use Rattle.std.proofs.lemmas.List.{length-map, map-append}
 use Rattle.std.proofs.lemmas.List.Elements.{Contains-append_right, Contains-append_cases, Contains-push_cases}
 use Rattle.std.proofs.lemmas.Option.{slice_get-map, slice_get-get_or}
 use Rattle.fs_histories.specs.Configurations.{Configuration}
-use Rattle.fs_configurations.specs.Apart.{AreApart}
+use Rattle.fs_histories.specs.Apart.{AreApart}
 use Rattle.fs_configurations.specs.code.Keys.{key_of, IsLastWith}
 use Rattle.fs_configurations.specs.code.Layers.{keys}
 use Rattle.fs_configurations.specs.code.Ways.{configurations}

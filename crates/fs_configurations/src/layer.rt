@@ -1,7 +1,7 @@
 //! Layers of the search.
 
 ghost use Rattle.std.specs.Prelude.{◌≡◌, ◌↔◌, true, [], length, Contains, OnOk};
-ghost use Rattle.fs_configurations.specs.Apart.{AreApart};
+ghost use Rattle.fs_histories.specs.Apart.{AreApart};
 ghost use Rattle.fs_configurations.specs.code.Ways.{configurations};
 ghost use Rattle.fs_configurations.specs.code.Searching.{AddsIfNew};
 

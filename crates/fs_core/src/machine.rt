@@ -1,6 +1,6 @@
 //! The shared state of all calls, its begins and its steps.
 
-ghost use Rattle.std.specs.Prelude.{IfOk, OnOk, OnErr, ◌≡◌, ◌≢◌, ◌<◌, ◌≤◌, ◌++◌, ◌∷◌, [], ℕ, None, Some, Err, length};
+ghost use Rattle.std.specs.Prelude.{IfOk, OnOk, IfErr, OnErr, ◌≡◌, ◌≢◌, ◌<◌, ◌≤◌, ◌++◌, ◌∷◌, [], ℕ, None, Some, Err, length};
 ghost use Rattle.fs_names.specs.Limits.{in_blocks, node_limit};
 ghost use Rattle.fs_names.specs.declared.limits.TheConstants.{NODE_LIMIT};
 ghost use Rattle.fs_nodes.specs.Graphs.{numbers};
@@ -16,6 +16,7 @@ ghost use Rattle.fs_timeline.specs.Timeline.{IsLawful, commits};
 ghost use Rattle.fs_linearizable.specs.Linearizable.{history, IsLinearizable};
 ghost use Rattle.fs_machine.specs.States.{Begins, Step, NoneBelow, Run, IsStart, fresh, empty, begun_again};
 ghost use Rattle.fs_core.specs.CoreValues.{state_of, IsAtRest};
+ghost use Rattle.fs_core.specs.Checkpoints.{IsWhyNot};
 ghost use Rattle.fs_core.specs.code.Doing.{Does};
 ghost use Rattle.fs_core.specs.code.Orders.{AreListed};
 ghost use Rattle.fs_core.specs.code.Rooms.{AreBelow};
@@ -24,6 +25,7 @@ ghost use Rattle.fs_finish.specs.Plans.{moved_by};
 ghost use Rattle.fs_ops.specs.PlanOf.{IfFinish, move_of};
 
 use crate::beginning::make_ready;
+use crate::checkpoint::NoCheckpoint;
 use crate::done::Done;
 use crate::helping::{Way, no_way, to_help_before};
 use crate::seat::{self, Running};
@@ -439,11 +441,30 @@ impl Core {
         }
     }
 
-    /// How often memory was refused to begins and new seats.
+    /// How often memory was refused to begins, new seats and `forget_counted`.
     pub fn refusals(&self) -> u64
         ensures { result ≡ self.now.refusals }
     {
         self.memory.refusals()
+    }
+
+    /// As `forget`. If memory is refused, that is counted (`refusals`), and nothing else has changed.
+    pub fn forget_counted(&mut self, alloc: Global) -> Result<u64, NoCheckpoint>
+        ensures rest { OnOk result (IsAtRest self.old) }
+        ensures state { OnOk result (state_of self.new ≡ begun_again (state_of self.old)) }
+        ensures calls { IfOk result (λ calls. calls ≡ length (commits self.old.timeline)) }
+        ensures seats { self.new.seats ≡ self.old.seats }
+        ensures why { IfErr result (IsWhyNot self.old) }
+        ensures err { OnErr result (self.new ≡ record self.old { refusals = self.new.refusals }) }
+        ensures granted { result ≢ Err NoCheckpoint.OutOfMemory → self.new.refusals ≡ self.old.refusals }
+        ensures refused { result ≡ Err NoCheckpoint.OutOfMemory → self.new.refusals ≢ self.old.refusals }
+    {
+        let calls = self.commits() as u64;
+        let mut memory = mem::replace(&mut self.memory, Memory::new());
+        let entries = self.checkpoint_counted(alloc, &mut memory);
+        self.memory = memory;
+        drop(entries?);
+        Ok(calls)
     }
 
     /// What has happened so far.

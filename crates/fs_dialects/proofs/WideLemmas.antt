@@ -80,7 +80,7 @@ widened_none rows h none = ap (λ (rs : List Row). widened rs h) none ∙ no_ent
 
 -- ---- no order is lost
 
-has_append : (e : Errno) (xs ys : List Errno) → has_error e ys ≡ true → has_error e (xs ++ ys) ≡ true
+pub has_append : (e : Errno) (xs ys : List Errno) → has_error e ys ≡ true → has_error e (xs ++ ys) ≡ true
 has_append e [] ys is = is
 has_append e (x ∷ xs) ys is = or_right (number_of x == number_of e) _ (has_append e xs ys is)
 
@@ -119,7 +119,7 @@ pattern_matches rows name AnyDirectory r is = is
 pattern_matches rows name (Except replies) r is = is
 pattern_matches rows name Anything r is = is
 
-widened_matches : (rows : List Row) (o : Option CallName) (p : Pattern) (r : Reply) → Matches p r → Matches (widened_by rows o p) r
+pub widened_matches : (rows : List Row) (o : Option CallName) (p : Pattern) (r : Reply) → Matches p r → Matches (widened_by rows o p) r
 widened_matches rows None p r is = is
 widened_matches rows (Some name) p r is = pattern_matches rows name p r is
 

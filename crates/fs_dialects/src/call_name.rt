@@ -24,7 +24,7 @@ pub enum CallName {
 }
 
 /// Each name.
-pub(crate) const NAMES: [CallName; 12] = [
+pub const NAMES: [CallName; 12] = [
     CallName::Mkdir,
     CallName::Mknod,
     CallName::Unlink,

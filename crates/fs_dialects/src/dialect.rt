@@ -40,7 +40,7 @@ impl Model for Dialect {
 
 impl Row {
     /// Whether it is for this call and what the other tree replied.
-    pub(crate) fn is_for(self, name: CallName, theirs: Errno) -> bool
+    pub fn is_for(self, name: CallName, theirs: Errno) -> bool
         ensures { result ≡ is_for name theirs self }
     {
         self.call.same(name) && self.theirs.number() == theirs.number()

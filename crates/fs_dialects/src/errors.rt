@@ -14,7 +14,7 @@ use fs_words::{Addition, FaultKind};
 use std::alloc::{AllocError, Global};
 
 /// Each error.
-const ERRNOS: [Errno; 11] = [
+pub const ERRNOS: [Errno; 11] = [
     Errno::Enoent,
     Errno::Enotdir,
     Errno::Eexist,

@@ -17,9 +17,9 @@ mod reading;
 mod tables;
 mod widening;
 
-pub use call_name::CallName;
+pub use call_name::{CallName, NAMES};
 pub use dialect::{Dialect, Row};
-pub use errors::{errors_at, write_errors};
+pub use errors::{ERRNOS, errors_at, write_errors};
 pub use fault::{DialectFault, TableFault};
 pub use reading::read_dialect;
 pub use tables::known_table;

@@ -1,3 +1,4 @@
 mod ShownLemmas
+mod KeepingLemmas
 mod Running
 mod Progress

@@ -1,5 +1,5 @@
 -- What a core forgets by itself.
-use Rattle.std.specs.Prelude.{◌≡◌, ◌<◌, ◌⊎◌, ℕ, Option, Some, None, length}
+use Rattle.std.specs.Prelude.{◌≡◌, ◌≢◌, ◌<◌, ◌⊎◌, ℕ, Option, Some, None, length}
 use Rattle.fs_timeline.specs.Timeline.{commits}
 use Rattle.fs_machine.specs.States.{begun_again}
 use Rattle.fs_core.specs.CoreValues.{CoreValue, state_of, IsAtRest}
@@ -20,9 +20,15 @@ abbrev pub IsOver : Option ℕ → CoreValue → Type 0
 IsOver None machine = ⊥
 IsOver (Some most) machine = most < calls machine
 
--- nothing changed; or more calls stood than are to be kept, none was under way, and they are forgotten
+-- memory was refused when the entries were to go, which the core counts; nothing else changed
+pub record IsUnforgotten (old new : CoreValue) : Type 0 where
+  pub rest : IsAtRest old
+  pub counted : new.refusals ≢ old.refusals
+  pub same : new ≡ record old { refusals = new.refusals }
+
+-- more calls stood than are to be kept, and none was under way: they are forgotten, or memory for that was refused; else nothing changed
 abbrev pub Keeps : Option ℕ → CoreValue → CoreValue → Type 0
-Keeps most old new = (new ≡ old) ⊎ (IsOver most old × IsForgotten old new)
+Keeps most old new = ((new ≡ old) × (IsOver most old → IsAtRest old → ⊥)) ⊎ (IsOver most old × (IsForgotten old new ⊎ IsUnforgotten old new))
 
 -- this came of the core behind that
 abbrev pub After : Option ℕ → (CoreValue → CoreValue → Type 0) → CoreValue → CoreValue → Type 0

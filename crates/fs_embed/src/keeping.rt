@@ -1,6 +1,6 @@
 //! A tree that forgets by itself: before a call it forgets those before, where they are more than it is to keep.
 
-ghost use Rattle.std.specs.Prelude.{◌≡◌, Ok, IfOk, IfErr, OnErr, MatchBool, length};
+ghost use Rattle.std.specs.Prelude.{◌≡◌, ◌≢◌, Ok, Err, IfOk, IfErr, OnErr, MatchBool, length};
 ghost use Rattle.fs_core.specs.Checkpoints.{IsWhyNot};
 ghost use Rattle.fs_embed.specs.Requests.{asked};
 ghost use Rattle.fs_embed.specs.Calls.{BeginsCall, IsNotBegun, RunsCall, IsNotReturned};
@@ -24,17 +24,20 @@ fn is_over(core: &Core, most: Option<u64>) -> bool
 
 /// Forgets the calls of a core if there are more than are to be kept, and none is pending, and answers how many it
 /// forgot. With `None` all are kept. An error says why it did not forget calls, although there were more. Then nothing
-/// has changed, and it can be tried again.
+/// has changed but that a refusal of memory is counted, and it can be tried again.
+#[tactic(auto, using(crate::proofs::KeepingLemmas::keeps_by))]
 pub fn keep_last(alloc: Global, core: &mut Core, most: Option<u64>) -> Result<u64, NoCheckpoint>
     ensures kept { Keeps most core.old core.new }
     ensures forgot { IsOver most core.old → IfOk result (λ count. (count ≡ calls core.old) × IsForgotten core.old core.new) }
     ensures few { (IsOver most core.old → ⊥) → (result ≡ Ok 0) × (core.new ≡ core.old) }
     ensures why { IfErr result (IsWhyNot core.old) }
-    ensures err { OnErr result (core.new ≡ core.old) }
+    ensures err { OnErr result (core.new ≡ record core.old { refusals = core.new.refusals }) }
+    ensures granted { result ≢ Err NoCheckpoint.OutOfMemory → core.new.refusals ≡ core.old.refusals }
+    ensures refused { result ≡ Err NoCheckpoint.OutOfMemory → core.new.refusals ≢ core.old.refusals }
     ensures seats { core.new.seats ≡ core.old.seats }
 {
     if is_over(core, most) {
-        return core.forget(alloc);
+        return core.forget_counted(alloc);
     }
     Ok(0)
 }

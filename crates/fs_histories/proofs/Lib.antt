@@ -8,6 +8,7 @@ pub mod CommutingLemmas
 pub mod Bringing
 pub mod Reaching
 pub mod PathLemmas
+pub mod NumberingLemmas
 pub mod PrefixLemmas
 pub mod FaultLemmas
 pub mod LinearizableLemmas

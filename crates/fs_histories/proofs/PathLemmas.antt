@@ -1,6 +1,7 @@
 -- Each step of the search makes the timeline that leads to a configuration one entry longer.
-use Rattle.std.proofs.Common.{zero, suc, take, ◌≡◌, ℕ, Bool, true, false, not, ◌||◌, ◌&&◌, ◌==◌, cond, List, [], ◌∷◌, ◌++◌, length, slice_get, Option, Some, None, is_some, refl, sym, ap, ◌∙◌, subst, ⊎_elim, append_assoc}
-use Rattle.std.proofs.lemmas.Bool.{eqb-true, eq-eqb, cases_Bool, both_ways, false_from_ne_true, and_parts, or_parts}
+use Rattle.std.proofs.Common.{zero, suc, take, ◌≡◌, ◌<◌, arith, ℕ, Bool, true, false, not, ◌||◌, ◌&&◌, ◌==◌, cond, nat_lt, List, [], ◌∷◌, ◌++◌, length, slice_get, Option, Some, None, is_some, refl, sym, ap, ◌∙◌, subst, ⊎_elim, append_assoc}
+use Rattle.std.proofs.Math.Nat.{eq-or-lt_of_le}
+use Rattle.std.proofs.lemmas.Bool.{eqb-true, eqb-false, eq-eqb, ltb-true, ltb-false, cases_Bool, both_ways, false_from_ne_true, and_parts, or_parts}
 use Rattle.fs_names.specs.Failures.{or_else}
 use Rattle.fs_calls.specs.Starts.{Start}
 use Rattle.fs_calls.specs.Outcomes.{next_start, reply_at, called}
@@ -18,7 +19,7 @@ use Rattle.fs_histories.specs.declared.heard.Heard.TheVariants as heard
 use Rattle.fs_histories.specs.declared.heard.Pattern.{Pattern}
 use Rattle.fs_histories.specs.Heard.{IsHeardAs, AreHeardIn, entry_of, entries}
 use Rattle.fs_histories.specs.Histories.{recorded, FitsIn, IsNextHeard, AreNextHeard, IsHistory}
-use Rattle.fs_histories.specs.Configurations.{Configuration, at_start, is_in, without, passed, returned, committed, CanCommit}
+use Rattle.fs_histories.specs.Configurations.{Configuration, at_start, is_in, AreRising, placed, without, passed, returned, committed, CanCommit}
 use Rattle.fs_histories.specs.Histories.{ExplainsFront}
 use Rattle.fs_histories.specs.Paths.{LeadsTo, StepsLead}
 use Rattle.fs_histories.proofs.HistoryLemmas.{call_of-history, is_some-returned_as, none_from, some_from, returned_of_other, committed_of_other, commits_of_none, played_commit, blanks, call_of-blank, has_returned-blank, passed_front, passed_call, passed_return}
@@ -77,6 +78,39 @@ passed_begun start h es n c x at = ap (has_begun c) (passed_front start h es n x
 pub passed_busy : (start : Start) (h : List Heard) (es : List Entry) (n s : ℕ) → ExplainsFront start h es → n ≡ length (history es) → is_busy s (entries (take n h)) ≡ is_busy s es
 passed_busy start h es n s x at = ap (is_busy s) (passed_front start h es n x at) ∙ is_busy-blank s (history es) ∙ is_busy-history s es
 
+-- ---- numbers that rise
+
+over_placed : (d c : ℕ) (xs : List ℕ) → d < c → ((e : ℕ) → is_in e xs ≡ true → d < e) → (e : ℕ) → is_in e (placed c xs) ≡ true → d < e
+over_placed d c xs small over e there = ⊎_elim
+    (λ same. subst (λ n. d < n) (sym (eqb-true e c same)) small)
+    (λ apart. over e (sym (ap (λ b. b || is_in e xs) apart) ∙ sym (is_in-placed e c xs) ∙ there))
+    (cases_Bool (e == c))
+
+rising_placed : (c : ℕ) (xs : List ℕ) → is_in c xs ≡ false → AreRising xs → AreRising (placed c xs)
+rising_placed c [] none k = (λ d there. absurd (cc), tt)
+rising_placed c (d ∷ xs) none k =
+    let apart = or_parts (c == d) (is_in c xs) none in
+    elim (nat_lt c d) as (λ b. nat_lt c d ≡ b → AreRising (cond b (c ∷ d ∷ xs) (d ∷ placed c xs))) [
+      | true ↦ λ less.
+          let small : c < d = ltb-true c d less in (
+            λ e there. ⊎_elim
+                (λ same. subst (λ n. c < n) (sym (eqb-true e d same)) small)
+                (λ other. let large = k.0 e (sym (ap (λ b. b || is_in e xs) other) ∙ there) in omega (arith, small, large))
+                (cases_Bool (e == d)),
+            k,
+          )
+      | false ↦ λ more.
+          let large : d < c = ⊎_elim (λ same. absurd (eqb-false c d apart.0 (sym same))) (λ less. less) (eq-or-lt_of_le (ltb-false c d more)) in
+          (over_placed d c xs large k.0, rising_placed c xs apart.1 k.1)
+    ] refl
+
+rising_without : (c : ℕ) (xs : List ℕ) → AreRising xs → AreRising (without c xs)
+rising_without c [] k = k
+rising_without c (d ∷ xs) k = elim (c == d) as (λ b. AreRising (cond b (without c xs) (d ∷ without c xs))) [
+  | true ↦ rising_without c xs k.1
+  | false ↦ (λ e there. k.0 e (without_was e c xs there), rising_without c xs k.1)
+]
+
 -- ---- steps
 
 pub leads_start : (start : Start) (h : List Heard) → LeadsTo start h [] (at_start start)
@@ -85,6 +119,7 @@ leads_start start h = record {
   place = refl;
   tree = refl;
   held = λ c. refl;
+  rising = tt;
 }
 
 pub leads_begin : (start : Start) (h : List Heard) (es : List Entry) (x : Configuration) (c seat : ℕ) (call : Call) → IsHistory h → slice_get h x.at ≡ Some (heard.Begin c seat call) → LeadsTo start h es x → LeadsTo start h (es ++ Begin c seat call ∷ []) (passed x)
@@ -104,6 +139,7 @@ leads_begin start h es x c seat call history is l =
       place = place_more x.at es e l.place refl;
       tree = l.tree ∙ sym (ap (next_start start) (commits_of_none es e begun (λ whole. refl)));
       held = λ d. l.held d ∙ sym (ap (λ b. b && not (has_returned d (es ++ e ∷ []))) (committed_of_other d es e refl) ∙ ap (λ b. has_committed d es && not b) (returned_of_other d es e refl));
+      rising = l.rising;
     }
 
 held_open : (a b : Bool) → b ≡ false → (a && not b) ≡ false → a ≡ false
@@ -151,6 +187,7 @@ leads_commit start h es x c call can l =
           is_in-placed d c x.held ∙ ap (λ b. (d == c) || b) (l.held d)
           ∙ committed_held (d == c) (has_committed d es) (has_returned d es) (λ same. subst (λ n. has_returned n es ≡ false) (sym (eqb-true d c same)) under_way)
           ∙ sym (ap (λ b. b && not (has_returned d (es ++ e ∷ []))) done ∙ ap (λ b. (has_committed d es || (d == c)) && not b) back);
+      rising = rising_placed c x.held can.not_yet l.rising;
     }
 
 without_same : (c : ℕ) (xs : List ℕ) → is_in c (without c xs) ≡ false
@@ -223,6 +260,7 @@ leads_return start h es x c p r history is held answer l =
           (λ same. subst (λ n. is_in n (without c x.held) ≡ false) (sym (eqb-true d c same)) (without_same c x.held) ∙ sym (after_it ∙ ap (λ b. has_committed d es && not (has_returned d es || b)) same ∙ back_now _ _))
           (λ apart. is_in-without d c x.held apart ∙ l.held d ∙ sym (after_it ∙ ap (λ b. has_committed d es && not (has_returned d es || b)) apart ∙ ap (λ b. has_committed d es && not b) (or_false (has_returned d es))))
           (cases_Bool (d == c));
+      rising = rising_without c x.held l.rising;
     }
 
 pub steps_lead : StepsLead

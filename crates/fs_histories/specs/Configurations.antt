@@ -1,5 +1,5 @@
 -- Configurations of the search, and which of them follow one.
-use Rattle.std.specs.Prelude.{◌≡◌, ℕ, ◌+◌, Bool, true, false, ◌||◌, nat_lt, List, [], ◌∷◌, length, take, slice_get, ◌==◌, if◌then◌else◌, Option, Some, None}
+use Rattle.std.specs.Prelude.{◌≡◌, ℕ, ◌+◌, ◌<◌, Bool, true, false, ◌||◌, nat_lt, List, [], ◌∷◌, length, take, slice_get, ◌==◌, if◌then◌else◌, Option, Some, None}
 use Rattle.fs_calls.specs.Tree.{IsTree}
 use Rattle.fs_calls.specs.Starts.{Start, start_tree}
 use Rattle.fs_calls.specs.Outcomes.{reply_at, called}
@@ -25,6 +25,11 @@ at_start start = record { at = 0; now = start; held = [] }
 abbrev pub is_in : ℕ → List ℕ → Bool
 is_in c [] = false
 is_in c (d ∷ xs) = (c == d) || is_in c xs
+
+-- numbers that rise, so that each is there once
+abbrev pub AreRising : List ℕ → Type 0
+AreRising [] = Unit {0}
+AreRising (c ∷ xs) = ((d : ℕ) → is_in d xs ≡ true → c < d) × AreRising xs
 
 -- a number put into a list, before the first that is larger
 abbrev pub placed : ℕ → List ℕ → List ℕ

@@ -1,5 +1,5 @@
 -- What holds of histories and the search: laws, each proved as the contract of a function of the module `laws`.
-use Rattle.std.specs.Prelude.{◌≡◌, ◌<◌, ◌-◌, ◌↔◌, ℕ, List, length, take, Contains, Some, None}
+use Rattle.std.specs.Prelude.{◌≡◌, ◌<◌, ◌≤◌, ◌+◌, ◌-◌, ◌^◌, ◌↔◌, ℕ, List, length, take, Contains, Some, None}
 use Rattle.fs_calls.specs.Starts.{Start}
 use Rattle.fs_timeline.specs.declared.entry.Entry.{Entry}
 use Rattle.fs_linearizable.specs.Linearizable.{IsLinearizable, history}
@@ -10,6 +10,8 @@ use Rattle.fs_histories.specs.Faults.{history_fault}
 use Rattle.fs_histories.specs.declared.fault.HistoryFault.{HistoryFault}
 use Rattle.fs_histories.specs.Configurations.{Configuration, at_start, IsFollowed}
 use Rattle.fs_histories.specs.Early.{SettlesIn}
+use Rattle.fs_histories.specs.Paths.{LeadsTo}
+use Rattle.fs_histories.specs.Apart.{AreApart}
 
 -- what a timeline explains is a history
 abbrev pub ExplainedAreHistories : Type 0
@@ -46,3 +48,8 @@ ClosedSetsRefute = (start : Start) (h : List Heard) (seen : List Configuration) 
 -- a timeline explains what was heard exactly where a linearizable history is heard so
 abbrev pub ExplainedAreLinearizable : Type 0
 ExplainedAreLinearizable = (start : Start) (h : List Heard) → ((es : List Entry) × Explains start h es) ↔ ((g : List Entry) × IsLinearizable start g × AreHeardIn g h × (length g ≡ length h))
+
+-- of a history of so many entries there are at most so many different configurations to which timelines lead
+abbrev pub ConfigurationsAreFew : Type 0
+ConfigurationsAreFew = (start : Start) (h : List Heard) (made : List Configuration) → AreApart made → ((x : Configuration) → Contains made x → (es : List Entry) × LeadsTo start h es x)
+    → length made ≤ (length h + 1) ^ (length h + 1)

@@ -5,5 +5,6 @@ pub mod Meeting
 pub mod Configurations
 pub mod Early
 pub mod Paths
+pub mod Apart
 pub mod Laws
 pub mod Examples

@@ -12,14 +12,15 @@ use Rattle.fs_histories.specs.declared.heard.Heard.TheVariants as heard
 use Rattle.fs_histories.specs.declared.heard.Pattern.{Pattern}
 use Rattle.fs_timeline.specs.declared.entry.Entry.TheVariants.{Begin, Commit, Return}
 use Rattle.fs_histories.specs.Histories.{ExplainsFront, IsHistory}
-use Rattle.fs_histories.specs.Configurations.{Configuration, at_start, is_in, passed, returned, committed, CanCommit}
+use Rattle.fs_histories.specs.Configurations.{Configuration, at_start, is_in, AreRising, passed, returned, committed, CanCommit}
 
--- a timeline leads to a configuration: it explains the front that has passed, and leaves its tree and the calls that it holds
+-- a timeline leads to a configuration: it explains the front that has passed, and leaves its tree and the calls that it holds, in order and each once
 pub record LeadsTo (start : Start) (h : List Heard) (es : List Entry) (x : Configuration) : Type 0 where
   pub explains : ExplainsFront start h es
   pub place : x.at ≡ length (history es)
   pub tree : x.now ≡ next_start start (commits es)
   pub held : (c : ℕ) → is_in c x.held ≡ (has_committed c es && not (has_returned c es))
+  pub rising : AreRising x.held
 
 -- each step of the search is one more entry
 pub record StepsLead : Type 0 where

@@ -1,6 +1,6 @@
 //! What holds of the definitions. Each function's contract is a law, and its body is empty.
 
-ghost use Rattle.fs_histories.specs.Laws.{ExplainedFronts, ClosedSetsReach, ClosedSetsRefute, ExplainedAreHistories, ExplainedAreLinearizable, FaultsAreFirst};
+ghost use Rattle.fs_histories.specs.Laws.{ExplainedFronts, ClosedSetsReach, ClosedSetsRefute, ConfigurationsAreFew, ExplainedAreHistories, ExplainedAreLinearizable, FaultsAreFirst};
 ghost use Rattle.fs_histories.specs.Meeting.{ApartCallsCommute};
 ghost use Rattle.fs_histories.specs.Paths.{StepsLead};
 
@@ -32,6 +32,11 @@ pub fn closed_sets_refute()
 /// Each step of the search makes the timeline that leads to a configuration one entry longer.
 pub fn steps_lead()
     ensures { StepsLead }
+{}
+
+/// A history has no more configurations than its entries give, so a search that makes more has made one twice.
+pub fn configurations_are_few()
+    ensures { ConfigurationsAreFew }
 {}
 
 /// Calls that do not meet commute.

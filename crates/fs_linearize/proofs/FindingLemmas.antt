@@ -16,7 +16,7 @@ use Rattle.fs_histories.specs.Early.{SettlesIn}
 use Rattle.fs_histories.specs.Paths.{LeadsTo}
 use Rattle.fs_histories.specs.Laws.{IsClosed}
 use Rattle.fs_histories.proofs.Reaching.{closed_set_reaches, closed_set_refutes}
-use Rattle.fs_configurations.specs.Apart.{AreApart}
+use Rattle.fs_histories.specs.Apart.{AreApart}
 use Rattle.fs_linearize.specs.Limited.{WasLimited}
 use Rattle.fs_configurations.specs.code.Calls.{AreEach, AreUnderWay}
 use Rattle.fs_configurations.specs.code.Ways.{GoesBy, GoesBack, IsLed, AllLed, configurations}

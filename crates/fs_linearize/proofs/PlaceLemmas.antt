@@ -1,6 +1,7 @@
 -- Where the first return is that nothing explains.
-use Rattle.std.proofs.Common.{◌≡◌, ℕ, ◌+◌, ◌-◌, ◌<◌, ◌≤◌, zero, suc, List, [], ◌∷◌, ◌++◌, length, take, slice_get, Some, refl, sym, ◌∙◌, subst, arith}
-use Rattle.std.proofs.lemmas.List.{take_all}
+use Rattle.std.proofs.Common.{◌≡◌, ℕ, ◌+◌, ◌-◌, ◌^◌, ◌<◌, ◌≤◌, zero, suc, List, [], ◌∷◌, ◌++◌, length, take, slice_get, Some, refl, sym, ◌∙◌, subst, arith}
+use Rattle.std.proofs.Math.Nat.{min-le_right, pow-le-pow_left, pow-le-pow_right}
+use Rattle.std.proofs.lemmas.List.{length-take, take_all}
 use Rattle.fs_calls.specs.Starts.{Start}
 use Rattle.fs_calls.specs.declared.call.Call.{Call}
 use Rattle.fs_timeline.specs.declared.entry.Entry.{Entry}
@@ -9,6 +10,7 @@ use Rattle.fs_histories.specs.declared.heard.Heard.{Heard}
 use Rattle.fs_histories.specs.declared.heard.Heard.TheVariants as heard
 use Rattle.fs_histories.specs.Histories.{IsHistory, Explains, HasNoOrder, HasNoFront}
 use Rattle.fs_histories.proofs.LinearizableLemmas.{explained_are_linearizable}
+use Rattle.fs_histories.proofs.NumberingLemmas.{configurations_are_few}
 use Rattle.fs_histories.proofs.PrefixLemmas.{explained_take, begun_explained}
 use Rattle.fs_linearize.specs.Limited.{WasLimited}
 use Rattle.fs_linearize.specs.Possible.{ArePossible}
@@ -73,10 +75,23 @@ refused_at start h before limit place call held possible order returns replies f
   answer = record { order = order; returns = returns; possible = subst (λ (xs : List Heard). ArePossible start xs limit call possible) front replies; held = later };
   linearizable = λ g. let way = (explained_are_linearizable start h).1 g in order.whole way.0 way.1;
   fault = refl;
+  known = tt;
 }
 
+-- so many configurations that differ are more than a part of the history has
+pub limited_above : (start : Start) (h : List Heard) (limit place : ℕ) → (end : ℕ) × WasLimited start (take end h) limit place → limit ≤ (length h + 1) ^ (length h + 1)
+limited_above start h limit place cut =
+    let few = configurations_are_few start (take cut.0 h) cut.1.made cut.1.apart cut.1.led in
+    let part : length (take cut.0 h) ≤ length h = let short = length-take cut.0 h in let least = min-le_right cut.0 (length h) in omega (arith, short, least) in
+    let more : length (take cut.0 h) + 1 ≤ length h + 1 = omega (arith, part) in
+    let some : 0 < length h + 1 = omega arith in
+    let base = pow-le-pow_left more (length (take cut.0 h) + 1) in
+    let exponent = pow-le-pow_right some more in
+    let many = cut.1.many in
+    omega (arith, many, few, base, exponent)
+
 pub refused_limited : (start : Start) (h : List Heard) (limit place : ℕ) → (end : ℕ) × WasLimited start (take end h) limit place → IsRefused start h limit (Unknown place)
-refused_limited start h limit place cut = record { answer = cut; linearizable = tt; fault = refl }
+refused_limited start h limit place cut = record { answer = cut; linearizable = tt; fault = refl; known = limited_above start h limit place cut }
 
 pub stopped_at : (start : Start) (h k : List Heard) (limit place c : ℕ) (found : Searched) → k ≡ h → IsSearched start k limit found → found ≡ search.NoOrder place c → HasNoFront start h place
 stopped_at start h k limit place c found same x is =
@@ -87,6 +102,11 @@ pub place_at : (start : Start) (h k : List Heard) (limit n c : ℕ) (found : Pla
 place_at start h k limit n c found same x is =
     let y : IsPlace start k limit (place.First n c) = subst (IsPlace start k limit) is x in
     subst (λ (xs : List Heard). HasNoOrder start xs n × IsReturnAt xs n c) same y
+
+pub limited_at : (start : Start) (h k : List Heard) (limit n : ℕ) (found : Place) → k ≡ h → IsPlace start k limit found → found ≡ place.Limited n → (end : ℕ) × WasLimited start (take end h) limit n
+limited_at start h k limit n found same x is =
+    let y : IsPlace start k limit (place.Limited n) = subst (IsPlace start k limit) is x in
+    subst (λ (xs : List Heard). (end : ℕ) × WasLimited start (take end xs) limit n) same y
 
 pub cut_whole : (start : Start) (h k : List Heard) (limit n : ℕ) (found : Searched) → k ≡ h → IsSearched start k limit found → found ≡ search.Limited n → (end : ℕ) × WasLimited start (take end h) limit n
 cut_whole start h k limit n found same x is =

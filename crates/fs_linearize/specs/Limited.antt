@@ -7,7 +7,7 @@ use Rattle.fs_histories.specs.declared.heard.Heard.{Heard}
 use Rattle.fs_histories.specs.Histories.{ExplainsFront}
 use Rattle.fs_histories.specs.Configurations.{Configuration}
 use Rattle.fs_histories.specs.Paths.{LeadsTo}
-use Rattle.fs_configurations.specs.Apart.{AreApart}
+use Rattle.fs_histories.specs.Apart.{AreApart}
 
 -- so many different configurations were made, each of a timeline that explains a front, and one is before the entry of this place
 pub record WasLimited (start : Start) (h : List Heard) (limit place : ℕ) : Type 0 where

@@ -1,5 +1,5 @@
 -- What the answer for a history says.
-use Rattle.std.specs.Prelude.{◌≡◌, ◌-◌, ℕ, List, length, take, slice_get, Option, Some, None}
+use Rattle.std.specs.Prelude.{◌≡◌, ◌≤◌, ◌+◌, ◌-◌, ◌^◌, ℕ, List, length, take, slice_get, Option, Some, None}
 use Rattle.fs_calls.specs.Starts.{Start}
 use Rattle.fs_timeline.specs.declared.entry.Entry.{Entry}
 use Rattle.fs_linearizable.specs.Linearizable.{IsLinearizable}
@@ -32,6 +32,13 @@ IsAnswerFor start h limit (Lawful journal) = Explains start h journal.items
 IsAnswerFor start h limit (NoOrder place call possible held) = IsRefusedAt start h limit place call possible held
 IsAnswerFor start h limit (Fault place kind) = Unit {0}
 IsAnswerFor start h limit (Unknown place) = (end : ℕ) × WasLimited start (take end h) limit place
+
+-- what is asked for more configurations than a history of so many entries can have is never left unknown
+abbrev pub IsKnownAbove : List Heard → ℕ → Found → Type 0
+IsKnownAbove h limit (Lawful journal) = Unit {0}
+IsKnownAbove h limit (NoOrder place call possible held) = Unit {0}
+IsKnownAbove h limit (Fault place kind) = Unit {0}
+IsKnownAbove h limit (Unknown place) = limit ≤ (length h + 1) ^ (length h + 1)
 
 -- the fault that is answered
 abbrev pub fault_in : Found → Option (ℕ × HistoryFault)

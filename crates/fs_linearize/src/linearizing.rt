@@ -3,7 +3,7 @@
 ghost use Rattle.std.specs.Prelude.{◌≡◌, IfOk};
 ghost use Rattle.fs_histories.specs.Faults.{history_fault};
 ghost use Rattle.fs_histories.specs.Histories.{IsHistory, HasNoFront};
-ghost use Rattle.fs_linearize.specs.Results.{IsAnswerFor, fault_in, TellsLinearizable};
+ghost use Rattle.fs_linearize.specs.Results.{IsAnswerFor, IsKnownAbove, fault_in, TellsLinearizable};
 ghost use Rattle.fs_linearize.specs.code.Searched.{IsRefused};
 
 use crate::faults::first_fault;
@@ -82,6 +82,7 @@ pub fn linearize<P: Progress>(
     ensures answer { IfOk result (IsAnswerFor start.now history.items limit) }
     ensures fault { IfOk result (λ found. fault_in found ≡ history_fault history.items) }
     ensures linearizable { IfOk result (TellsLinearizable start.now history.items) }
+    ensures known { IfOk result (IsKnownAbove history.items limit) }
 {
     if let Some((place, kind)) = first_fault(alloc, &history)? {
         return Ok(Found::Fault(place, kind));

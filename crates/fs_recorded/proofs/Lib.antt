@@ -3,3 +3,4 @@ mod ReadingLemmas
 mod FrontLemmas
 mod ManyLemmas
 pub mod InputLemmas
+mod LearningLemmas

@@ -80,7 +80,7 @@ further_fault before given Full told is far = absurd is
 further_fault before given (UnderWay c) told is far = absurd is
 
 -- the fault of what is read next is that of the whole
-next_fault : {X Y : Type 0} (given : Result X ScriptFault) (goes : X → Result Y ScriptFault) (fault : RunFault) → IsFaultOf given fault → IsFaultOf (given >>= goes) fault
+pub next_fault : {X Y : Type 0} (given : Result X ScriptFault) (goes : X → Result Y ScriptFault) (fault : RunFault) → IsFaultOf given fault → IsFaultOf (given >>= goes) fault
 next_fault given goes (Input f) is = ap (λ r. r >>= goes) is
 next_fault given goes Read is = absurd is
 next_fault given goes Write is = absurd is

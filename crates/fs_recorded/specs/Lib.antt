@@ -2,4 +2,5 @@ pub mod Texts
 pub mod Answers
 pub mod Findings
 pub mod Many
+pub mod Learnings
 pub mod code

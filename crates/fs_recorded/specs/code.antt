@@ -3,3 +3,4 @@ pub mod Makes
 pub mod Walks
 pub mod Fronts
 pub mod Each
+pub mod Learns

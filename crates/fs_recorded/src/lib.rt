@@ -3,7 +3,7 @@
 //! `linearize_history` reads a history to its end. It writes the journal that explains it, or one line that says why there is none. If
 //! that is asked for, it writes a journal up to the first return that nothing explains. `linearize_many` reads histories one after the
 //! other, and writes a line for each, and counts. `linearize_bytes` makes in memory what `linearize_history` writes, and `read_history`
-//! only reads. The text is made before its first byte is written. `Read` or `Write` is answered only if the reader or the writer failed
+//! only reads. `learn_histories` learns of histories of one thread each by which table of errors their tree can be read. The text is made before its first byte is written. `Read` or `Write` is answered only if the reader or the writer failed
 //! during this call.
 //!
 //! A history is a journal without commits, in which a reply may be left open: `failed ?`, `stat dir ?`. `specs/Texts.antt` says what a
@@ -15,6 +15,7 @@ mod answer;
 mod failing;
 mod front;
 mod history;
+mod learning;
 mod linearizing;
 mod lines;
 mod many;
@@ -27,5 +28,6 @@ pub use answer::{Linearized, Outcome};
 pub use failing::{Failing, Notes};
 pub use fs_linearize::{Progress, Untold};
 pub use history::{History, read_history};
+pub use learning::{Learned, Learning, learn_histories};
 pub use linearizing::{CONFIGURATION_LIMIT, linearize_bytes, linearize_history};
 pub use many::{Histories, linearize_many};

@@ -67,7 +67,7 @@ fn lines_before(lines: &[&[u8]]) -> usize
 }
 
 /// The same fault, so many lines further on.
-fn further(fault: RunFault, before: usize) -> RunFault
+pub(crate) fn further(fault: RunFault, before: usize) -> RunFault
     ensures { IsFurther before fault result }
 {
     match fault {
@@ -138,7 +138,7 @@ fn push_piece(
 
 /// How many lines the first piece has: all up to the next header line.
 #[tactic(auto, using(crate::proofs::ManyLemmas::piece_cut))]
-fn piece_length(lines: &[&[u8]]) -> usize
+pub(crate) fn piece_length(lines: &[&[u8]]) -> usize
     requires { 0 < length lines.now }
     ensures cut { IsPieceCut (map (λ l. l.now) lines.now) (map (λ l. l.now) (take result lines.now)) (map (λ l. l.now) (drop result lines.now)) }
     ensures some { 0 < result }

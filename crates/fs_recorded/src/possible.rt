@@ -7,7 +7,11 @@ use fs_text::{Addition, write_reply};
 use std::alloc::{AllocError, Global};
 
 /// Adds a reply.
-fn push_one(alloc: Global, one: &Reply, told: &mut Addition) -> Result<(), AllocError> {
+pub(crate) fn push_reply(
+    alloc: Global,
+    one: &Reply,
+    told: &mut Addition,
+) -> Result<(), AllocError> {
     let mut reply = Vec::new(alloc);
     write_reply(alloc, one, &mut reply)?;
     push_cut(&reply, told)
@@ -27,7 +31,7 @@ pub(crate) fn with_possible(
             told.push(b", ")?;
         }
         is_first = false;
-        push_one(alloc, one, &mut told)?;
+        push_reply(alloc, one, &mut told)?;
     }
     if !possible.all {
         told.push(if is_first { b".." } else { b", .." })?;

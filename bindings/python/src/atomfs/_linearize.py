@@ -12,7 +12,7 @@ from ._texts import ROOM, Room
 from ._values import bytes_of, number_of
 
 # So many configurations are made where no limit is given, and there are so many limits.
-_CONFIGURATIONS, _LIMITS = 10_000_000, range(1, 1_000_000_001)
+_CONFIGURATIONS, _LIMITS = 1_000_000, range(1, 1_000_000_001)
 # A search goes by slices: the first makes at most so many configurations, or this many for each line where that is more, and each of
 # the others so many times what the one before has made, from the begin on. So all of them together make at most a third more.
 _FIRST, _OF_LINE, _TIMES = 1_000, 4, 4
@@ -66,7 +66,7 @@ class NoHistory:
 
 @dataclasses.dataclass(frozen=True)
 class Unknown:
-    """The search had come to the entry at `place`, counted from 1, when the limit was reached."""
+    """The search had come to the entry at `place`, counted from 1, when the limit was reached. With a larger limit it goes on."""
 
     place: int
 
@@ -86,7 +86,7 @@ def linearize(
     """Finds an order in which the calls of a history can have taken effect, or the first return up to which no order explains the entries.
 
     A history is a journal without its lines `commit`, in which `return 3 failed ?` fits any error of call 3, and `return 3 stat dir ?` any
-    number of entries; `History` records one. The search makes at most `limit` configurations, 1 to 1,000,000,000; without it, 10,000,000. Other
+    number of entries; `History` records one. The search makes at most `limit` configurations, 1 to 1,000,000,000; without it, 1,000,000. Other
     threads run meanwhile.
 
     Raises `Error` with the line of a fault if the text is not a history, `ValueError` if there is no such limit, and `MemoryError`.

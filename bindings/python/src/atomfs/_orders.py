@@ -58,7 +58,8 @@ def _up_to(history: bytes, found: Linearized, limit: Optional[int]) -> str:
     """The journal up to the return at fault."""
     text = front(history, limit) if isinstance(found, NoOrder) else None
     if text is None:
-        why = "the search reached its limit" if isinstance(found, (NoOrder, Unknown)) else "this is no history"
+        limited = isinstance(found, (NoOrder, Unknown))
+        why = "the search reached its limit, so give a larger one" if limited else "this is no history"
         raise ValueError(f"{why}: {found.verdict}")
     return text
 

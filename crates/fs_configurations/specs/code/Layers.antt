@@ -1,6 +1,6 @@
 -- Layers of the search.
 use Rattle.std.specs.Prelude.{◌≡◌, ℕ, List, map}
-use Rattle.fs_configurations.specs.Apart.{AreApart}
+use Rattle.fs_histories.specs.Apart.{AreApart}
 use Rattle.fs_configurations.specs.code.Keys.{key_of}
 use Rattle.fs_configurations.specs.code.Ways.{configurations}
 use Rattle.fs_configurations.specs.declared.reached.Reached.{Reached}

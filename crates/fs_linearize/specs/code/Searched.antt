@@ -6,7 +6,7 @@ use Rattle.fs_histories.specs.declared.heard.Heard.{Heard}
 use Rattle.fs_histories.specs.Histories.{HasNoOrder, HasNoFront, Explains}
 use Rattle.fs_configurations.specs.code.Ways.{GoesBy}
 use Rattle.fs_linearize.specs.Limited.{WasLimited}
-use Rattle.fs_linearize.specs.Results.{IsReturnAt, IsAnswerFor, TellsLinearizable, fault_in}
+use Rattle.fs_linearize.specs.Results.{IsReturnAt, IsAnswerFor, IsKnownAbove, TellsLinearizable, fault_in}
 use Rattle.fs_linearize.specs.declared.search.Searched.{Searched}
 use Rattle.fs_linearize.specs.declared.search.Searched.TheVariants.{Ends, NoOrder, Limited}
 use Rattle.fs_linearize.specs.declared.first_return.Place.{Place}
@@ -29,3 +29,4 @@ pub record IsRefused (start : Start) (h : List Heard) (limit : ℕ) (f : Found) 
   pub answer : IsAnswerFor start h limit f
   pub linearizable : TellsLinearizable start h f
   pub fault : fault_in f ≡ None
+  pub known : IsKnownAbove h limit f

@@ -2,7 +2,7 @@ use Rattle.std.proofs.Common.{◌≡◌, None, subst, sym, ap, ◌∙◌}
 use Rattle.fs_histories.specs.Faults.{history_fault}
 use Rattle.fs_histories.specs.Histories.{IsHistory}
 use Rattle.fs_histories.proofs.FaultLemmas.{faults_are_first}
-use Rattle.fs_linearize.proofs.PlaceLemmas.{cut_whole}
+use Rattle.fs_linearize.proofs.PlaceLemmas.{cut_whole, limited_above}
 use Rattle.fs_linearize.proofs.LinearizableLemmas.{fault_refuses, searched_tells}
 use Rattle.fs_linearize.proofs.linearizing.linearize.Goals as goal
 
@@ -28,3 +28,6 @@ refused-requires-clause-history g c =
 
 pub returns-in-Limited-clause-answer : goal.returns-in-Limited-clause-answer
 returns-in-Limited-clause-answer g c = cut_whole c.args.start.now c.args.history.items _ c.args.limit _ _ c.deref-2.ensures.value c.in_ok-steps.ensures c.in-Limited.is
+
+pub returns-in-Limited-clause-known : goal.returns-in-Limited-clause-known
+returns-in-Limited-clause-known g c = limited_above c.args.start.now c.args.history.items c.args.limit _ (cut_whole c.args.start.now c.args.history.items _ c.args.limit _ _ c.deref-2.ensures.value c.in_ok-steps.ensures c.in-Limited.is)

@@ -2,7 +2,7 @@ use Rattle.std.proofs.Common.{◌++◌, ◌∷◌, [], List, subst, sym}
 use Rattle.fs_histories.specs.Histories.{IsHistory}
 use Rattle.fs_histories.specs.declared.heard.Heard.{Heard}
 use Rattle.fs_histories.specs.declared.heard.Heard.TheVariants.{Return}
-use Rattle.fs_linearize.proofs.PlaceLemmas.{some_place, place_at, refused_at}
+use Rattle.fs_linearize.proofs.PlaceLemmas.{some_place, place_at, limited_at, refused_at, refused_limited}
 use Rattle.fs_linearize.proofs.PossibleLemmas.{asked_history}
 use Rattle.fs_linearize.proofs.linearizing.refused.Goals as goal
 
@@ -18,3 +18,9 @@ returns-in_ok-possible-in-First g c =
     let h = c.args.history.items in
     let found = place_at c.args.start.now h c.deref.result.now c.args.limit c.in-First.place c.in-First.call c.in_ok-place.field-0 c.deref.ensures.value c.in_ok-place.ensures c.in-First.is in
     refused_at c.args.start.now h c.truncate.new.self.items c.args.limit c.in-First.place c.in-First.call c.args.held c.in_ok-possible-in-First.possible found.0 found.1 c.in_ok-possible-in-First.ensures c.truncate.ensures.items c.requires.held
+
+pub returns-in-Limited : goal.returns-in-Limited
+returns-in-Limited g c =
+    let h = c.args.history.items in
+    refused_limited c.args.start.now h c.args.limit c.in-Limited.place
+    (limited_at c.args.start.now h c.deref.result.now c.args.limit c.in-Limited.place c.in_ok-place.field-0 c.deref.ensures.value c.in_ok-place.ensures c.in-Limited.is)

@@ -1,6 +1,6 @@
 use Rattle.std.proofs.Common.{List, [], ◌∷◌, ◌++◌, sym, ap, subst, ◌∙◌}
 use Rattle.std.specs.List.{Contains}
-use Rattle.fs_configurations.specs.Apart.{AreApart}
+use Rattle.fs_histories.specs.Apart.{AreApart}
 use Rattle.fs_configurations.specs.code.Layers.{keys}
 use Rattle.fs_configurations.specs.code.Ways.{configurations}
 use Rattle.fs_configurations.specs.declared.reached.Reached.{Reached}

@@ -1,0 +1,3 @@
+pub mod LearnLemmas
+pub mod AcceptLemmas
+pub mod TableLemmas

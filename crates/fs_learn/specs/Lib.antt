@@ -1,0 +1,4 @@
+pub mod Learning
+pub mod Tables
+pub mod Laws
+pub mod code

@@ -1,0 +1,2 @@
+-- What ties the code to the definitions: of it nothing has to be believed.
+pub mod Steps
