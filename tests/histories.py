@@ -556,6 +556,34 @@ class Histories(harness.Case):
         given = text_of((*BEGUN, "return 2 stat dir 1"))
         self.same(given, run(given, "linearize", "--limit", "1"), Outcome(4, b"unknown 2\n", LIMIT))
 
+    def drawn_front(self, given: bytes, more: tuple[str, ...]) -> None:
+        front = run(given, "linearize", "--front", *more)
+        is_journal = front.output.startswith(b"atomfs-journal")
+        for option, words in (("--draw", ("draw",)), ("--html", ("draw", "--html"))):
+            drawn = run(front.output, *words).output if is_journal else b""
+            told = front.message if is_journal else b"atomfs: " + front.output + front.message
+            self.same(given, run(given, "linearize", option, *more), Outcome(front.status, drawn, told))
+
+    def test_drawn_front(self) -> None:
+        """`--draw` and `--html` draw what `--front` writes. Of a fault, and of what is not known, nothing is drawn."""
+        harness.asks_of_answers()
+        none = text_of((*BEGUN, "return 2 stat dir 1"))
+        self.each(
+            (
+                ("lawful", text_of((*BEGUN, "return 2 stat dir 0", "return 1 ok")), ()),
+                ("no order", none, ()),
+                (
+                    "read by a table",
+                    text_of((HEADER, "begin 1 0 unlink /", "return 1 failed EISDIR")),
+                    ("--as", "linux"),
+                ),
+                ("a fault", text_of((*BEGUN, "begin 3 1 stat /")), ()),
+                ("not known", none, ("--limit", "1")),
+            ),
+            self.drawn_front,
+        )
+        self.same("no history", run(b"x\n", "linearize", "--draw"), run(b"x\n", "linearize"))
+
     def test_meeting(self) -> None:
         """What meets neither the call that returns nor one that meets it is not tried: each such call would double the configurations."""
         given = text_of(

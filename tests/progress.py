@@ -190,13 +190,13 @@ class Progress(Case):
         with tempfile.TemporaryDirectory(prefix="atomfs-") as folder:
             script = pathlib.Path(folder, "script")
             script.write_bytes(SHORT)
-            for words in (("draw",), ("draw", str(script)), ("draw", "--robin", "/nowhere")):
+            for words in (("draw",), ("draw", str(script)), ("draw", "--robin", "/nowhere"), ("linearize", "--draw")):
                 with self.subTest(" ".join(words)):
                     refusal = (
                         b"atomfs: a terminal shows no picture: write it to a file with `> run.svg` after the command"
                     )
                     self.assertEqual(on_one_terminal(SHORT, *words)[:2], (2, [refusal, b""]))
-            for words in (("draw", "--html"), ("draw", "--html", "/nowhere")):
+            for words in (("draw", "--html"), ("draw", "--html", "/nowhere"), ("linearize", "--html", "/nowhere")):
                 with self.subTest(" ".join(words)):
                     refusal = (
                         b"atomfs: a terminal shows no page: write it to a file with `> run.html` after the command"

@@ -542,13 +542,25 @@ class InMemory(Recorder):
 
     def test_pyfakefs(self) -> None:
         """A directory is unlinked while another thread makes it, and both calls are ok."""
-        status, history, told = self.recorded("pyfakefs")
-        if "pyfakefs is missing" in told:
-            self.skipTest("pyfakefs is not there: apt-get install python3-pyfakefs")
+        self.finds("pyfakefs")
+
+    def test_fsspec(self) -> None:
+        """Two threads make the same directory, and both calls are ok; three calls show it."""
+        history = self.finds("fsspec")
+        core = run(history.encode(), "linearize", "--core")
+        begun = re.findall(rb"^begin \d+ \d+ (\w+)", core.output, re.M)
+        self.same(core.output.decode(), (core.status, len(begun) <= 4, b"mkdir" in begun), (0, True, True))
+
+    def finds(self, tree: str) -> str:
+        """A history of the tree without an order."""
+        status, history, told = self.recorded(tree)
+        if f"{tree} is missing" in told:
+            self.skipTest(f"{tree} is not there: apt-get install python3-{tree}")
         found = re.fullmatch(r"round \d+: none (\d+) (\d+)\nno order explains that `.*` returned `.*`\n", told)
         assert found
         came = run(history.encode(), "linearize")
         self.same(history, (status, came.status, came.output), (1, 1, f"none {found[1]} {found[2]}\n".encode()))
+        return history
 
     def test_one_thread(self) -> None:
         """What is not lawful of one thread is another kind of tree, and it stops there."""
@@ -564,6 +576,7 @@ class InMemory(Recorder):
             ("the package atomfs", "atomfs", "MemoryFS"),
             ("PyFilesystem2", "fs", "MemoryFS"),
             ("pyfakefs", "pyfakefs", "pyfakefs"),
+            ("fsspec", "fsspec", "fsspec"),
         ):
             with self.subTest(name), tempfile.TemporaryDirectory(prefix="atomfs-") as folder:
                 pathlib.Path(folder, f"{module}.py").write_text("raise ImportError('it is not installed')\n")
@@ -578,7 +591,7 @@ class InMemory(Recorder):
         self.same(
             "no tree",
             (status, told.splitlines()[-1].partition("invalid choice: ")[2]),
-            (2, "'Forest' (choose from 'MemoryFS', 'pyfakefs', 'Tree')"),
+            (2, "'Forest' (choose from 'MemoryFS', 'pyfakefs', 'fsspec', 'Tree')"),
         )
 
 

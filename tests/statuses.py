@@ -568,11 +568,23 @@ class Words(Case):
                 ),
                 *(
                     (
+                        f"linearize {words}",
+                        misused(
+                            f"the argument '{words.split()[0]}' cannot be used with '{words.split()[1]}'",
+                            "linearize [OPTIONS] [FILE]",
+                        ),
+                    )
+                    for words in ("--draw --front", "--html --front", "--html --draw", "--many --draw", "--core --html")
+                ),
+                *(
+                    (
                         f"linearize --learn {other}",
                         misused(f"the argument '--learn' cannot be used with '{name}'", "linearize [OPTIONS] [FILE]"),
                     )
                     for other, name in (
                         ("--front", "--front"),
+                        ("--draw", "--draw"),
+                        ("--html", "--html"),
                         ("--core", "--core"),
                         ("--as linux", "--as <TREE>"),
                         ("--failing x", "--failing <DIR>"),

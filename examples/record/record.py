@@ -1,5 +1,5 @@
 #!/usr/bin/env python3
-"""Records the calls of threads on a tree in memory, of PyFilesystem2, of pyfakefs or of this package, and finds an order of them.
+"""Records the calls of threads on a tree in memory, of PyFilesystem2, pyfakefs, fsspec or this package, and finds an order of them.
 
 Install the package, or build the library with `embed/build` and say where it is:
 
@@ -8,10 +8,11 @@ Install the package, or build the library with `embed/build` and say where it is
     python3 examples/record/record.py Tree
     python3 examples/record/record.py MemoryFS > none.history
     python3 examples/record/record.py pyfakefs > none.history
+    python3 examples/record/record.py fsspec > none.history
 
 MemoryFS is a tree of PyFilesystem2: Debian's python3-fs, or `pip install fs`. One of its threads removes a directory, and what another
-one made in it meanwhile is lost. pyfakefs is a tree for tests: Debian's python3-pyfakefs, or `pip install pyfakefs`. To record another
-tree, add a function that makes one call on it.
+one made in it meanwhile is lost. pyfakefs is a tree for tests: Debian's python3-pyfakefs, or `pip install pyfakefs`. fsspec has a tree in memory too: Debian's
+python3-fsspec, or `pip install fsspec`. To record another tree, add a function that makes one call on it.
 
 One thread records first: if even that has no order, the tree is of another kind. Then three threads make four random calls each,
 round after round. The first history that no order explains goes to standard output.
@@ -39,6 +40,8 @@ except (ImportError, OSError) as error:
 ALONE, THREADS, CALLS = 20, 3, 4
 NAMES = *3 * ["mkdir", "rmdir"], "mknod", "unlink", "stat", "readdir"
 PATHS = "/a", "/b", "/a/a", "/a/b"
+# The tree of fsspec makes missing parents of files, and files that are there anew. So directories alone are recorded, below the root.
+OF_DIRECTORIES, TOP = (*3 * ["mkdir", "rmdir"], "stat", "readdir"), ("/a", "/b")
 
 
 def on_memory_fs(files, name, path, answer):
@@ -79,6 +82,29 @@ def fake_os():
     return fake_filesystem.FakeOsModule(files)
 
 
+def on_fsspec(files, name, path, answer):
+    """Makes a call on the tree in memory of fsspec."""
+    if name == "mkdir":
+        files.mkdir(path, create_parents=False)
+    elif name == "rmdir":
+        files.rmdir(path)
+    elif name == "readdir":
+        answer.names([entry.rpartition("/")[2] for entry in files.ls(path, detail=False)])
+    else:
+        found = files.info(path)
+        answer.stat(found["type"] == "directory", found["size"])
+
+
+def fsspec_tree():
+    """The tree in memory of fsspec, with nothing in it: a process has one."""
+    from fsspec.implementations.memory import MemoryFileSystem
+
+    files = MemoryFileSystem()
+    files.store.clear()
+    files.pseudo_dirs[:] = [""]
+    return files
+
+
 def on_tree(tree, name, path, answer):
     """Makes a call on a tree of this package, whose `stat` knows how many entries a directory has."""
     reply = getattr(tree, name)(path)
@@ -90,8 +116,9 @@ def on_tree(tree, name, path, answer):
 
 def record(tree, make, lists):
     """The history of lists of calls, each on a thread of its own."""
-    # If a path leads through a file, MemoryFS says that an assertion failed; pyfakefs unlinks no directory, and says so. Nothing changes.
-    any_error = {AssertionError: None, IsADirectoryError: None}
+    # If a path leads through a file, MemoryFS says that an assertion failed; pyfakefs unlinks no directory, and says so; fsspec does not
+    # find a directory in a list that another thread has removed. Nothing changes.
+    any_error = {AssertionError: None, IsADirectoryError: None, ValueError: None}
     history, together = atomfs.History(errors=any_error), threading.Barrier(len(lists))
 
     def work(calls):
@@ -106,8 +133,8 @@ def record(tree, make, lists):
     return history
 
 
-def drawn(draw, threads, calls):
-    return [[(draw.choice(NAMES), draw.choice(PATHS)) for _ in range(calls)] for _ in range(threads)]
+def drawn(draw, threads, calls, names, paths):
+    return [[(draw.choice(names), draw.choice(paths)) for _ in range(calls)] for _ in range(threads)]
 
 
 def pauses(draw, kind):
@@ -143,7 +170,7 @@ def needs(name, why):
 
 def main():
     words = argparse.ArgumentParser(description=__doc__, formatter_class=argparse.RawDescriptionHelpFormatter)
-    words.add_argument("tree", choices=("MemoryFS", "pyfakefs", "Tree"))
+    words.add_argument("tree", choices=("MemoryFS", "pyfakefs", "fsspec", "Tree"))
     words.add_argument("--rounds", type=int, default=2_000)
     words.add_argument("--seed", type=int, default=0, help="draws the calls, and where threads stop")
     given = words.parse_args()
@@ -161,14 +188,23 @@ def main():
         except ImportError as error:
             needs("pyfakefs", error)
         new, make = fake_os, on_fake_os
+    elif given.tree == "fsspec":
+        try:
+            traced = type(fsspec_tree())
+        except ImportError as error:
+            needs("fsspec", error)
+        new, make = fsspec_tree, on_fsspec
     else:
         new, make, traced = atomfs.Tree, on_tree, atomfs.Tree
     draw = random.Random(given.seed)
+    of = (OF_DIRECTORIES, TOP) if given.tree == "fsspec" else (NAMES, PATHS)
     for _ in range(ALONE):
-        judge(record(new(), make, drawn(draw, 1, THREADS * CALLS)), "one thread, so this is another kind of tree", 2)
+        judge(
+            record(new(), make, drawn(draw, 1, THREADS * CALLS, *of)), "one thread, so this is another kind of tree", 2
+        )
     threading.settrace(pauses(draw, traced))
     for at in range(given.rounds):
-        judge(record(new(), make, drawn(draw, THREADS, CALLS)), f"round {at}", 1)
+        judge(record(new(), make, drawn(draw, THREADS, CALLS, *of)), f"round {at}", 1)
     print(f"all are lawful: {ALONE} histories of one thread, {given.rounds} of {THREADS} threads")
 
 

@@ -40,11 +40,22 @@ fn report_page<E: Write>(errors: &mut E) -> u8 {
     2
 }
 
+/// The status where what is drawn would be written to a terminal, and the message.
+fn report_drawing<E: Write>(errors: &mut E, drawing: Drawing) -> u8 {
+    match drawing {
+        Drawing::Picture(_) => report_picture(errors),
+        Drawing::Page => report_page(errors),
+    }
+}
+
 /// The status where a command would write a file to a terminal, and the message.
 pub(crate) fn refused_terminal<E: Write>(command: &Subcommand<'_>, errors: &mut E) -> Option<u8> {
     match command {
-        Subcommand::Draw(_, Drawing::Picture(_)) => Some(report_picture(errors)),
-        Subcommand::Draw(_, Drawing::Page) => Some(report_page(errors)),
+        Subcommand::Draw(_, drawing) => Some(report_drawing(errors, *drawing)),
+        Subcommand::Linearize(_, _, recorded) => match recorded.drawn {
+            Some(drawing) => Some(report_drawing(errors, drawing)),
+            None => None,
+        },
         _ => None,
     }
 }

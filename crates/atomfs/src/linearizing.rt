@@ -2,17 +2,20 @@
 
 ghost use Rattle.std.specs.Prelude.{◌-◌, ◌<◌, ◌^◌};
 
-use fs_arguments::{Histories as Asked, Recorded};
+use crate::drawing::draw;
+use fs_arguments::{Drawing, Histories as Asked, Recorded};
 use fs_command::{
-    Kept, Line, Screen, report_file, report_learned, report_linearize, report_many,
+    Kept, Line, Screen, report_draw, report_file, report_learned, report_linearize, report_many,
     report_minimized, report_table, report_unopened, report_unwritten,
 };
 use fs_dialects::{Dialect, known_table, read_dialect};
+use fs_io::Made;
 use fs_minimal::{Minimized, minimize_history};
 use fs_recorded::{
-    Failing, Histories, Linearized, Untold, learn_histories, linearize_history, linearize_many,
+    Failing, Histories, Linearized, Untold, learn_histories, linearize_bytes, linearize_history,
+    linearize_many,
 };
-use fs_sched::{Device, RunFault, Sink, Source};
+use fs_sched::{Device, RunFault, Schedule, Sink, Source};
 use fs_start::whole_text;
 use std::alloc::Global;
 use std::fs::{File, create_dir_all};
@@ -195,6 +198,58 @@ fn linearize_each<T: Clock + Files, R: Source, W: Sink, E: Write>(
     report_many(errors, &reader.seen, outcome)
 }
 
+/// What is found of a history, in memory: the text that `--front` writes, and what it answers.
+fn found_in<R: Source>(
+    alloc: Global,
+    reader: &mut R,
+    dialect: &Dialect,
+    limit: usize,
+) -> Result<Made<Linearized>, RunFault>
+    requires reads { R.failures reader.old < 2 ^ 64 - 1 }
+{
+    let text = whole_text(alloc, reader)?;
+    linearize_bytes(alloc, &text, dialect, limit, true)
+}
+
+/// Whether a text is a journal, and no line that says that there is none.
+fn is_journal(text: &[u8]) -> bool {
+    text.starts_with(b"atomfs-journal ")
+}
+
+/// Writes the line that is found in the place of a journal, of which nothing is drawn.
+fn report_undrawn<E: Write>(errors: &mut E, line: &[u8]) {
+    let _ = errors.write_all(b"atomfs: ");
+    let _ = errors.write_all(line);
+}
+
+/// Draws what is found of a history: the lawful journal, or the journal up to the return that nothing explains.
+fn draw_found<R: Source, W: Sink, E: Write>(
+    alloc: Global,
+    reader: &mut Kept<R>,
+    writer: &mut W,
+    dialect: &Dialect,
+    limit: usize,
+    drawing: Drawing,
+    errors: &mut E,
+) -> u8
+    requires reads { R.failures reader.old.inner < 2 ^ 64 - 1 }
+    requires writes { W.failures writer.old < 2 ^ 64 - 1 }
+{
+    let Made { text, end } = match found_in(alloc, reader, dialect, limit) {
+        Ok(made) => made,
+        Err(fault) => return report_linearize(errors, &reader.seen, Err(fault)),
+    };
+    if is_journal(&text) {
+        let mut front = Device::new(text.as_slice());
+        if let Err(fault) = draw(alloc, &mut front, writer, Schedule::Given, drawing) {
+            return report_draw(errors, &reader.seen, Err(fault));
+        }
+    } else {
+        report_undrawn(errors, &text);
+    }
+    report_linearize(errors, &reader.seen, Ok(end))
+}
+
 /// Does what is asked of histories, and answers the exit status.
 pub(crate) fn linearize<T: Clock + Files, R: Source, W: Sink, E: Write>(
     rt: &T,
@@ -235,6 +290,9 @@ pub(crate) fn linearize<T: Clock + Files, R: Source, W: Sink, E: Write>(
             report_learned(errors, &reader.seen, outcome)
         }
         Asked::Whole | Asked::Front => {
+            if let Some(drawing) = recorded.drawn {
+                return draw_found(alloc, reader, writer, &dialect, limit, drawing, errors);
+            }
             let front = histories == Asked::Front;
             let outcome = linearize_shown(
                 rt, alloc, reader, writer, &dialect, limit, front, screen,

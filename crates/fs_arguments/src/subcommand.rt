@@ -107,13 +107,15 @@ pub enum Subcommand<'a> {
     Explain(Topic, Option<Topic>),
 }
 
-/// How histories are read, and where those are kept that are not lawful.
+/// How histories are read, where those are kept that are not lawful, and how what is found of one is drawn.
 #[derive(Clone, Copy, Debug, PartialEq, Eq)]
 pub struct Recorded<'a> {
     /// The known tree, or the file with the table, that says what their tree replies.
     pub dialect: Option<&'a str>,
     /// The directory for those that are not lawful.
     pub failing: Option<&'a str>,
+    /// What is drawn in the place of the journal.
+    pub drawn: Option<Drawing>,
 }
 
 /// What is asserted of drawn runs, in words.
@@ -415,14 +417,31 @@ fn histories_of<'a>(matches: &ArgMatches<'a>) -> Histories
     Histories::Whole
 }
 
-/// How histories are read, and where those are kept that are not lawful.
+/// What is drawn of a history.
+fn drawn_of<'a>(matches: &ArgMatches<'a>) -> Option<Drawing>
+    ensures page { one_text (found_of matches.now) (codes "html") ≡ Some (codes "true") → result ≡ Some Drawing.Page }
+    ensures picture { one_text (found_of matches.now) (codes "html") ≡ Some (codes "false") → one_text (found_of matches.now) (codes "draw") ≡ Some (codes "true") → result ≡ Some (Drawing.Picture None) }
+    ensures none { one_text (found_of matches.now) (codes "html") ≡ Some (codes "false") → one_text (found_of matches.now) (codes "draw") ≡ Some (codes "false") → result ≡ None }
+{
+    if matches.get_flag("html") {
+        return Some(Drawing::Page);
+    }
+    if matches.get_flag("draw") {
+        return Some(Drawing::Picture(None));
+    }
+    None
+}
+
+/// How histories are read, where those are kept that are not lawful, and what is drawn of one.
 fn recorded_of<'a>(matches: &ArgMatches<'a>) -> Recorded<'a>
     ensures dialect { option_map (λ word. word.now) result.dialect ≡ first_value (found_of matches.now) (codes "as") }
     ensures failing { option_map (λ word. word.now) result.failing ≡ first_value (found_of matches.now) (codes "failing") }
+    ensures page { one_text (found_of matches.now) (codes "html") ≡ Some (codes "true") → result.drawn ≡ Some Drawing.Page }
 {
     Recorded {
         dialect: matches.get_str("as"),
         failing: matches.get_str("failing"),
+        drawn: drawn_of(matches),
     }
 }
 

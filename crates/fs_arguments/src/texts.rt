@@ -126,6 +126,7 @@ Example:
 pub(crate) const LINEARIZE_STATUSES: &str = "\
 A history is a journal without its `commit` lines, up to the end or a line `tree`. If a reply is not known, `return N ?` fits any reply, `return N failed ?` any error, `return N failed ENOENT|ENOTDIR` one of these, and `return N stat dir ?` any size.
 With --as each error that is returned may also be what this tree replies there, by rows `CALL OURS THEIRS`. TREE is posix, linux, afero, jimfs, pyfilesystem or fsspec, or a file with a line `atomfs-dialect 1` and rows.
+With --draw or --html what --front writes is drawn, or the lawful journal. Of `fault` and `unknown` nothing is drawn, and standard error has that line.
 With --core the command writes a history without an order. Standard error says how many calls it has, of how many, after how many trials.
 With --learn each return is compared with what this tree replies. Two different errors make a row. If one of the two calls succeeds, or both do with different replies, no row explains it, and the rest of that history is left out.
 
