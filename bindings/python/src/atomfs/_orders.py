@@ -11,8 +11,8 @@ from ._tools import Picture, draw
 from ._values import bytes_of
 
 Text = Union[str, bytes]
-# What the entries of a history begin with.
-_ENTRY = re.compile(rb"(begin|return) ")
+# The lines of a history that are entries. LF alone ends a line, and a comment may have a CR.
+_ENTRY = re.compile(rb"^(?:begin|return) .*\n?", re.M)
 
 
 @overload
@@ -66,8 +66,7 @@ def _up_to(history: bytes, found: Linearized, limit: Optional[int]) -> str:
 
 def _behind(history: bytes, place: int) -> bytes:
     """The entries after the one at a place, counted from 1."""
-    lines = [line for line in history.splitlines(keepends=True) if _ENTRY.match(line)]
-    return b"".join(lines[place:])
+    return b"".join(_ENTRY.findall(history)[place:])
 
 
 def _notes(found: NoOrder) -> List[bytes]:
