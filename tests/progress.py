@@ -398,7 +398,7 @@ class Layouts(Case):
     def test_examples_of_the_page(self) -> None:
         """docs/COMMANDS.md shows what a terminal does of lines of ends."""
         page = (DATA.parent.parent / "docs" / "COMMANDS.md").read_bytes()
-        (table,) = re.findall(rb"^```\n(.*?)^```$", page, re.M | re.S)
+        table, *_ = re.findall(rb"^```\n(.*?)^```$", page, re.M | re.S)
         given = spaced(re.sub(rb"\(\S*%\)", b"", table))
         self.assertEqual(b"\n".join(on_one_terminal(given, "outcomes", "--add")[1]), table)
 
