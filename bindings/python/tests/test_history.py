@@ -96,7 +96,10 @@ class Linearize(unittest.TestCase):
             played(atomfs.draw_history(text, html=True)), (picture.svg, "# lawful\n# history lawful\n" + journal)
         )
         # The replies of later calls may be open.
-        none, later = BEGUN + "return 2 stat dir 1\n# 3\rreturn 9 ok\nreturn 1 ok\n", "begin 3 0 stat /b\nreturn 3 failed ?\n"
+        none, later = (
+            BEGUN + "return 2 stat dir 1\n# 3\rreturn 9 ok\nreturn 1 ok\n",
+            "begin 3 0 stat /b\nreturn 3 failed ?\n",
+        )
         front, picture = front_of(none), atomfs.draw_history((none + later).encode())
         self.assertEqual(picture, atomfs.draw(front))
         notes = f"# {atomfs.check(front)}\n# history none 3 2\n"
