@@ -72,10 +72,11 @@ class Slices(unittest.TestCase):
 
         was = signal.signal(signal.SIGALRM, alarm)
         self.addCleanup(signal.signal, signal.SIGALRM, was)
+        self.addCleanup(signal.setitimer, signal.ITIMER_REAL, 0)
         began = time.monotonic()
-        # The slice in which the signal comes ends a little later, by itself.
+        # The whole search takes seconds. The slice in which the signal comes ends a little later, by itself.
         signal.setitimer(signal.ITIMER_REAL, 0.5)
-        self.assertRaisesRegex(TimeoutError, "enough", atomfs.linearize, hard(14, "ffffff"), 20_000)
+        self.assertRaisesRegex(TimeoutError, "enough", atomfs.linearize, hard(18, "ffffff"), 100_000)
         self.assertLess(time.monotonic() - began, 20)
         self.assertEqual(atomfs.linearize(hard(3, "ffffff")).verdict, "none 7 5")
 
