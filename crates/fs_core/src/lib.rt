@@ -6,7 +6,8 @@
 //!
 //! A begin allocates all that its call can need, and a refused one changes nothing. A step does one move of the call on a seat, and cannot
 //! fail. `Core::checkpoint` hands the entries out, and the timeline begins again at the tree that they lead to. It changes nothing if a
-//! call is pending or memory runs out. `Core::forget` does the same and drops the entries. `Core::verdict` judges the entries as they are.
+//! call is pending or memory runs out. `Core::forget` does the same and drops the entries. `Core::forget_counted` also counts a refusal of
+//! memory. `Core::verdict` judges the entries as they are.
 //!
 //! Enter at `Core::new`, which uses `V2`, or at `Core::with_limits` for the limits of another version. `Core::from_rows` begins at a tree,
 //! and so does `Core::from_tree` if that is the tree of a quiescent core, which `Core::prepare` proves. Then come `seat`, `begin`, `step`
