@@ -1,8 +1,9 @@
 """Counts the instructions of the program and its misses of data by valgrind, which are the same under any load, and keeps those of some small jobs in
 bench/kept.txt.
 
-Misses are those of the first level of a cache that is always of the same size, whatever the machine has. A block of that file is of one machine: the
-line of `rt version`, the C library, and the processor as valgrind shows it. Another kit compiles otherwise, and other libraries have other counts.
+Misses are those of a cache that is always of the same size, whatever the machine has: of its first level, and of its last one, of 1 MiB, beyond which a
+miss costs much time. A block of that file is of one machine: the line of `rt version`, the C library, and the processor as valgrind shows it. Another kit
+compiles otherwise, and other libraries have other counts. A block from before misses of the last level were counted has no lines of them.
 """
 import concurrent.futures
 import os
@@ -26,9 +27,10 @@ CALLS = 2_000
 # By these valgrind chooses the processor that it shows, and the C library its functions.
 FEATURES = ("pni", "ssse3", "cx16", "sse4_2", "movbe", "abm", "rdtscp", "avx", "bmi1", "bmi2", "avx2")
 # The cache of which misses are counted: bytes, ways, bytes of a line, for instructions, data and the last level.
-CACHE = ("--cache-sim=yes", "--I1=32768,8,64", "--D1=32768,8,64", "--LL=8388608,16,64")
-# What a job's misses are called in the file.
+CACHE = ("--cache-sim=yes", "--I1=32768,8,64", "--D1=32768,8,64", "--LL=1048576,16,64")
+# What a job's misses are called in the file: at the first level, and at the last one.
 MISSES = "misses of "
+FAR = "misses beyond 1 MiB of "
 
 
 class Bounds(typing.NamedTuple):
@@ -40,22 +42,23 @@ class Bounds(typing.NamedTuple):
 
 def bounds(job):
     """Where a few blocks of the heap stand decides some misses, so a miss more is a loss later than an instruction more."""
-    return Bounds(1.05, 0.95) if job.startswith(MISSES) else Bounds(1.03, 0.97)
+    return Bounds(1.05, 0.95) if job.startswith((MISSES, FAR)) else Bounds(1.03, 0.97)
 
 
 class Counted(typing.NamedTuple):
-    """The instructions of a program on an input, its misses of data at the first level, and what it wrote."""
+    """The instructions of a program on an input, its misses of data at the first level and at the last one, and what it wrote."""
 
     instructions: int
     misses: int
+    far: int
     said: bytes
 
     def of(self, job):
-        return {job: self.instructions, MISSES + job: self.misses}
+        return {job: self.instructions, MISSES + job: self.misses, FAR + job: self.far}
 
 
-def counted(program, words, text):
-    """A program on an input.
+def collected(program, words, text, *options):
+    """What callgrind collects of a program on an input by these options, and what the program wrote.
 
     Where blocks of the heap stand, and so what copies cost, depends on how long the program's name is. So it is always called the same. And it reads
     a file, since of a pipe it may get more pieces or fewer.
@@ -68,19 +71,30 @@ def counted(program, words, text):
             shutil.which("valgrind") or "valgrind",
             "--tool=callgrind",
             f"--callgrind-out-file={os.devnull}",
-            *CACHE,
+            *options,
         ]
         with given.open("rb") as source:
             done = subprocess.run(
                 [*valgrind, "./atomfs", *words], stdin=source, capture_output=True, cwd=folder, env={"PATH": os.defpath}
             )
-    # Instructions, reads, writes, and at the first level misses of instructions, of reads and of writes.
-    found = re.search(rb"Collected : (\d+) \d+ \d+ \d+ (\d+) (\d+)", done.stderr)
+    found = re.search(rb"Collected : ([\d ]+)", done.stderr)
     if done.returncode or not found:
         sys.exit(
             f"valgrind {program} {' '.join(words)}: status {done.returncode}\n{done.stderr.decode(errors='replace')}"
         )
-    return Counted(int(found[1]), int(found[2]) + int(found[3]), done.stdout)
+    return [int(count) for count in found[1].split()], done.stdout
+
+
+def counted(program, words, text):
+    """The instructions of a program on an input, its misses, and what it wrote."""
+    # Behind instructions, reads and writes come the misses of instructions, reads and writes at the first level, and then those at the last one.
+    (instructions, _, _, _, *near, _, read, written), said = collected(program, words, text, *CACHE)
+    return Counted(instructions, sum(near), read + written, said)
+
+
+def instructions_of(program, words, text):
+    """The instructions alone, in half of the time."""
+    return collected(program, words, text)[0][0]
 
 
 def seeds(program, name):

@@ -13,9 +13,10 @@ PROGRAM = os.environ.get(
 
 
 class Ran(typing.NamedTuple):
-    """The seconds of a run, those of its processor in the program itself, the most kilobytes that it held, and its status."""
+    """The seconds of a run, those of its processor and those in the program itself, the most kilobytes that it held, and its status."""
 
     seconds: float
+    processor_seconds: float
     own_seconds: float
     kilobytes: int
     status: int
@@ -29,7 +30,7 @@ def ran(words, given, made, stderr=None):
         _, status, usage = os.wait4(run.pid, 0)
         took = time.perf_counter() - began
     run.returncode = os.waitstatus_to_exitcode(status)
-    return Ran(took, usage.ru_utime, usage.ru_maxrss, run.returncode)
+    return Ran(took, usage.ru_utime + usage.ru_stime, usage.ru_utime, usage.ru_maxrss, run.returncode)
 
 
 def ran_well(words, given, made, wanted=0, stderr=None):

@@ -134,6 +134,34 @@ def moves(calls):
     return text(lines)
 
 
+def sandbox(calls):
+    """A tree of files eight directories deep is unpacked below one that is then moved into its place; its files are looked at, read and written, and removed."""
+    draw = random.Random(9)
+    dirs, files, unpacked = [""], [], []
+    while len(unpacked) < 0.45 * calls:
+        if draw.random() < 0.06:
+            above = draw.choice([path for path in dirs[-40:] if path.count("/") < 8] or dirs[:40])
+            dirs.append(f"{above}/part{len(dirs)}")
+            unpacked.append(("mkdir", dirs[-1], ""))
+        else:
+            files.append(f"{draw.choice(dirs[-12:])}/file{len(files)}.txt")
+            size = min(4_000, int(20 / (1 - draw.random())))
+            unpacked += [("mknod", files[-1], ""), ("write", files[-1], f" 0 {draw.randbytes(size).hex()}")]
+    lines = ["mkdir /new", *(f"{kind} /new{path}{rest}" for kind, path, rest in unpacked), "rename /new /app"]
+    while len(lines) < calls - len(files) - len(dirs):
+        kind, file = draw.random(), draw.choice(files)
+        if kind < 0.5:
+            lines.append(f"stat /app{file}{draw.choice(('', '', '', '.missing'))}")
+        elif kind < 0.8:
+            lines.append(f"read /app{file} 0 4000")
+        elif kind < 0.9:
+            lines.append(f"readdir /app{file.rpartition('/')[0]}")
+        else:
+            lines.append(f"write /app{file} 0 {draw.randbytes(40).hex()}")
+    removed = [f"unlink /app{path}" for path in reversed(files)] + [f"rmdir /app{path}" for path in reversed(dirs)]
+    return text(lines + removed)
+
+
 def exchanges(calls):
     """Directories and files of a tree that change places, half of them with what stands beside them; files are looked at and read between."""
     draw = random.Random(8)

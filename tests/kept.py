@@ -24,6 +24,11 @@ NEEDED = (
 NO_BLOCK = "bench/kept.txt has no counts of this kit, C library and processor: tests/kept.py has printed them"
 
 
+def comparable(counts: dict[str, int], block: typing.Any) -> dict[str, int]:
+    """The counts that are kept, too: all, or all but the misses beyond 1 MiB, of which older blocks have no lines."""
+    return {job: count for job, count in counts.items() if job in block.counts or not job.startswith(counting.FAR)}
+
+
 def change(job: str, count: int, block: typing.Any) -> tuple[str | None, str]:
     """What is told of a count that differs from the one that is kept: nothing, a gain or a loss."""
     kept, bounds = block.counts[job], counting.bounds(job)
@@ -51,8 +56,9 @@ class Counts(Case):
                 file=sys.stderr,
             )
             self.skipTest(NO_BLOCK)
-        self.same("the jobs of bench/kept.txt", list(block.counts), list(counts))
-        self.each(((job, job, count, block) for job, count in counts.items()), self.look)
+        compared = comparable(counts, block)
+        self.same("the jobs of bench/kept.txt", list(block.counts), list(compared))
+        self.each(((job, job, count, block) for job, count in compared.items()), self.look)
 
     def look(self, job: str, count: int, block: typing.Any) -> None:
         kind, told = change(job, count, block)
@@ -82,7 +88,7 @@ class Kept(Case):
         counting.Block(
             (f"kit {kit}", "library glibc 2", "processor x86_64 avx, valgrind-3"),
             commit,
-            {"run few": few, "misses of run few": few},
+            {"run few": few, "misses of run few": few, "misses beyond 1 MiB of run few": few},
         )
         for kit, commit, few in (("a", "0123", 100_000), ("b", "4567 with changes", 7), ("a", "89ab", 90_000))
     )
@@ -90,11 +96,23 @@ class Kept(Case):
     def test_changes(self) -> None:
         instructions = (103_000, None), (103_001, "loss"), (97_000, None), (96_999, "gain")
         misses = (105_000, None), (105_001, "loss"), (95_000, None), (94_999, "gain")
-        rows = [("run few", row) for row in instructions] + [("misses of run few", row) for row in misses]
+        rows = [("run few", row) for row in instructions]
+        rows += [(f"{of} run few", row) for of in ("misses of", "misses beyond 1 MiB of") for row in misses]
         self.each(((f"{job} {count}", job, count, kind) for job, (count, kind) in rows), self.look_at_change)
 
     def look_at_change(self, job: str, count: int, kind: str | None) -> None:
         self.same(count, change(job, count, self.OLD)[0], kind)
+
+    def test_older_block(self) -> None:
+        """A block without misses beyond 1 MiB is compared without them, and one without another count is not."""
+        instructions, misses, far = self.OLD.counts
+        for kept, wanted in (
+            ([instructions, misses, far], [instructions, misses, far]),
+            ([instructions, misses], [instructions, misses]),
+            ([misses, far], [instructions, misses, far]),
+        ):
+            older = self.OLD._replace(counts={job: 7 for job in kept})
+            self.same(kept, list(comparable(self.OLD.counts, older)), wanted)
 
     def test_blocks(self) -> None:
         """What is written is read again, and a block takes the place of one of the same machine alone."""

@@ -1,3 +1,4 @@
+pub mod Ahead
 pub mod RisingLemmas
 pub mod Walked
 pub mod Appended

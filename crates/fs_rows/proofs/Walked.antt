@@ -27,11 +27,11 @@ use Rattle.fs_slab.proofs.SearchLemmas.{both_first, both_second, is_less}
 -- ---- a node that is visited
 
 -- its entries come ahead of what was
-pub ahead_by : (s : Slab nodes.the_data) (at : Key × ℕ) (n : ℕ) (key : Key) (node : nodes.the_data) (links : List (Name × ℕ)) (old new : List (Key × ℕ))
-    → (key, n) ≡ at → get s n ≡ Some node → links ≡ links_of (Some (place node)) → new ≡ old ++ reverse (entries_below key links)
+pub ahead_by : (s : Slab nodes.the_data) (at : Key × ℕ) (n : ℕ) (key : Key) (node : nodes.the_data) (old new : List (Key × ℕ))
+    → (key, n) ≡ at → get s n ≡ Some node → new ≡ old ++ reverse (entries_below key (links_of (Some (place node))))
     → new ≡ old ++ reverse (entries_below at.0 (links_at (graph s) at.1))
-ahead_by s at n key node links old new same got read went =
-    went ∙ ap (λ ls. old ++ reverse (entries_below key ls)) (read ∙ sym (links_got (graph s) n _ (place_got s n node got)))
+ahead_by s at n key node old new same got went =
+    went ∙ ap (λ ls. old ++ reverse (entries_below key ls)) (sym (links_got (graph s) n _ (place_got s n node got)))
     ∙ ap (λ (a : Key × ℕ). old ++ reverse (entries_below a.0 (links_at (graph s) a.1))) same
 
 -- its row is told

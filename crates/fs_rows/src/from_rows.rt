@@ -14,8 +14,8 @@ use fs_calls::ranges::{fits_size, is_full};
 use fs_memory::Memory;
 use fs_names::order::compare_keys;
 use fs_names::{Kind, Limits, Name};
-use fs_slab::Node;
-use fs_slab::nodes::{attach, search, step};
+use fs_slab::nodes::{attach, step};
+use fs_slab::{Links, Node};
 use slab::Slab;
 use std::alloc::{AllocError, Global};
 use std::cmp::Ordering;
@@ -89,7 +89,7 @@ fn place_of<'a>(
             if is_full(limits.entries(), links.len()) {
                 return None;
             }
-            match search(links, name) {
+            match links.search(name) {
                 Ok(_) => None,
                 Err(i) => Some((dir, i, name)),
             }
@@ -121,7 +121,7 @@ fn bare_node(alloc: Global, row: &Row, limits: Limits) -> Result<Node, AllocErro
     ensures form { IfOk result (λ node. HasForm (in_blocks limits) (Some (place node))) }
 {
     match row.kind {
-        Kind::Dir => Ok(Node::Dir(Vec::new(alloc))),
+        Kind::Dir => Ok(Node::Dir(Links::new(alloc))),
         Kind::File => Ok(Node::File(file_of(alloc, &row.bytes, limits)?)),
     }
 }

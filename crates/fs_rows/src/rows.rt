@@ -5,7 +5,7 @@ ghost use Rattle.std.specs.List.{list_all};
 ghost use Rattle.slab.specs.Slab.{ContainsKey};
 ghost use Rattle.fs_rows.specs.Rows.{row_of, is_plain};
 ghost use Rattle.fs_slab.specs.code.Nodes.{graph, pairs, place};
-ghost use Rattle.fs_slab.specs.code.Slots.{IsForest, node_at, node_of, with_node, links_at, tree_of};
+ghost use Rattle.fs_slab.specs.code.Slots.{IsForest, node_at, node_of, with_node, links_at, links_of, tree_of};
 ghost use Rattle.fs_rows.specs.code.Walks.{entries_below};
 
 use fs_blocks::File;
@@ -53,8 +53,8 @@ fn longer(alloc: Global, key: &[Name], name: &Name) -> Result<Vec<Name>, AllocEr
     Ok(longer)
 }
 
-/// Puts the entries of a directory ahead, so that its first one is the next.
-fn push_entries(
+/// Puts these entries of a directory ahead, so that the first of them is the next.
+fn push_links(
     alloc: Global,
     key: &[Name],
     links: &[Link],
@@ -69,6 +69,24 @@ fn push_entries(
             node: link.node,
         };
         ahead.push(entry)?;
+    }
+    Ok(())
+}
+
+/// Puts the entries of a directory ahead, so that its first one is the next.
+fn push_entries(
+    alloc: Global,
+    key: &[Name],
+    node: &Node,
+    ahead: &mut Vec<Ahead>,
+) -> Result<(), AllocError>
+    ensures { OnOk result (ahead.new.items ≡ ahead.old.items ++ reverse (entries_below key.now (links_of (Some (place node.now))))) }
+{
+    let mut left = node.entries();
+    while left > 0 {
+        let links = node.until(left);
+        push_links(alloc, key, links, ahead)?;
+        left -= links.len();
     }
     Ok(())
 }
@@ -116,7 +134,7 @@ fn visit(
     ensures plain { OnOk result (list_all is_plain rows.old.items ≡ true → list_all is_plain rows.new.items ≡ true) }
 {
     let node = &nodes[at.node];
-    push_entries(alloc, &at.key, node.links(), ahead)?;
+    push_entries(alloc, &at.key, node, ahead)?;
     let row = row_at(alloc, at.key, node)?;
     rows.push(row)?;
     Ok(())

@@ -1,3 +1,4 @@
+pub mod NameParts
 pub mod ForestTrees
 pub mod LinkEdits
 pub mod Moving

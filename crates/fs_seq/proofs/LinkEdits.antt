@@ -1,40 +1,16 @@
 -- A link among rising links written anew, or in another place.
-use Rattle.std.proofs.Common.{◌≡◌, ◌≢◌, ℕ, zero, suc, cond, not, List, [], ◌∷◌, slice_get, Some, None, Option, IsTrue, refl, sym, ap, subst, ◌∙◌, T, Less, Equal, Greater, Ordering}
-use Rattle.std.specs.Prelude.{slice_set, insert, remove}
+use Rattle.std.proofs.Common.{◌≡◌, ◌≢◌, ℕ, zero, suc, cond, not, List, [], ◌∷◌, slice_get, Some, IsTrue, refl, sym, ap, subst, ◌∙◌, T, Less, Equal, Greater, Ordering}
+use Rattle.std.specs.Prelude.{slice_set, remove}
 use Rattle.std.specs.Ordering.{is_eq, ordering_reverse}
-use Rattle.std.specs.FinMap.{find, put, is_sorted}
+use Rattle.std.specs.FinMap.{put, is_sorted}
 use Rattle.std.specs.FinMap.Entries.{by_order, below_all, is_sorted-put}
 use Rattle.std.proofs.lemmas.Cmp.{tied_itself}
 use Rattle.std.proofs.lemmas.Float.{T_from_true}
 use Rattle.fs_names.specs.Names.{Name, name_cmp}
 use Rattle.fs_names.proofs.Lemmas.{name_total}
-use Rattle.fs_slab.specs.declared.nodes.Link.{Link}
-use Rattle.fs_slab.specs.code.Nodes.{pair, pairs, number_of, name_of, without, IsNameAt, BelongsAt}
+use Rattle.fs_slab.specs.code.Nodes.{name_of, without, IsNameAt}
 use Rattle.fs_seq.proofs.Rewiring.{without-put}
 use Rattle.fs_slab.proofs.SearchLemmas.{both_first, both_second, is_less}
-use Rattle.fs_slab.proofs.SlabLemmas.{pairs-insert, pairs-remove}
-
--- a link with a name has a number
-nowhere : (o : Option (Name × ℕ)) (x : Name) → name_of o ≡ Some x → number_of o ≡ None → ⊥
-nowhere None x e f = cc
-nowhere (Some l) x e f = cc
-
--- a name that is not among links stands nowhere
-pub not_in_place : (links : List (Name × ℕ)) (x : Name) (i : ℕ) → find name_cmp x links ≡ None → IsNameAt links x i → ⊥
-not_in_place links x i none at = nowhere (slice_get links i) x at.named (sym at.found ∙ none)
-
--- a link that went, and one that was put in
-pub replaced : (old left new : List Link) (i at : ℕ) (l : Link) (x : Name) (n : ℕ) → pair l ≡ (x, n) → left ≡ remove old i → new ≡ insert left at l → BelongsAt (pairs left) x at
-    → pairs new ≡ put name_cmp x n (remove (pairs old) i)
-replaced old left new i at l x n is went came belongs =
-    ap pairs came ∙ pairs-insert left at l ∙ ap (insert (pairs left) at) is ∙ sym (belongs.placed n)
-    ∙ ap (put name_cmp x n) (ap pairs went ∙ pairs-remove old i)
-
--- links of which one is written anew, by their names and numbers
-pub pairs-set : (links : List Link) (i : ℕ) (l : Link) → pairs (slice_set links i l) ≡ slice_set (pairs links) i (pair l)
-pairs-set [] i l = refl
-pairs-set (m ∷ links) zero l = refl
-pairs-set (m ∷ links) (suc i) l = ap (λ z. pair m ∷ z) (pairs-set links i l)
 
 -- a name below all is below the one at a place
 below_named : (y x : Name) (links : List (Name × ℕ)) (i : ℕ) → T (below_all name_cmp y links) → name_of (slice_get links i) ≡ Some x → name_cmp y x ≡ Less

@@ -1,5 +1,5 @@
 -- The graph of the root alone.
-use Rattle.std.proofs.Common.{◌≡◌, ◌≢◌, ℕ, zero, suc, Bool, true, false, [], ◌∷◌, Some, None, is_some, option_and_then, map, subst, Vec, Global, refl, sym, ap, ◌∙◌, nat_eq}
+use Rattle.std.proofs.Common.{◌≡◌, ◌≢◌, ℕ, zero, suc, Bool, true, false, [], ◌∷◌, Some, None, is_some, option_and_then, map, subst, List, refl, sym, ap, ◌∙◌, nat_eq}
 use Rattle.std.specs.FinMap.{find, is_sorted}
 use Rattle.fs_names.specs.Names.{Name, name_cmp}
 use Rattle.fs_names.specs.Keys.{Key}
@@ -69,7 +69,7 @@ nothing_at zero = refl
 nothing_at (suc n) = refl
 
 -- the first node of a slab that was empty
-pub first_node : (s t : Slab nodes.the_data) (key : ℕ) (links : Vec Link Global) → s.slots ≡ [] → s.vacant_key ≡ 0 → key ≡ s.vacant_key → Updates s t key (Some (nodes.Dir links)) → links.items ≡ []
+pub first_node : (s t : Slab nodes.the_data) (key : ℕ) (links : List Link) → s.slots ≡ [] → s.vacant_key ≡ 0 → key ≡ s.vacant_key → Updates s t key (Some (nodes.Dir links)) → links ≡ []
     → (place_at (graph t) 0 ≡ Some (Dir [])) × ((j : ℕ) → j ≢ 0 → place_at (graph t) j ≡ None)
 first_node s t key links empty first is updates none =
     let at : key ≡ 0 = is ∙ first in

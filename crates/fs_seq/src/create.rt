@@ -13,8 +13,8 @@ use fs_calls::path_errors::root_error;
 use fs_calls::{Call, EntryCall, Errno, Reply};
 use fs_memory::Memory;
 use fs_names::{Limits, Path};
-use fs_slab::Node;
 use fs_slab::nodes::{attach, look_up};
+use fs_slab::{Links, Node};
 use slab::Slab;
 use std::alloc::{AllocError, Global};
 
@@ -95,7 +95,7 @@ pub fn mkdir(
         nodes,
         path,
         limits,
-        Node::Dir(Vec::new(alloc)),
+        Node::Dir(Links::new(alloc)),
     )
 }
 

@@ -53,7 +53,7 @@ pub(crate) fn lead(nodes: &mut Slab<Node>, dir: usize, i: usize, node: usize)
     ensures { Leads (graph nodes.old) (graph nodes.new) dir i node }
 {
     match &mut nodes[dir] {
-        Node::Dir(links) => links[i].node = node,
+        Node::Dir(links) => links.lead(i, node),
         Node::File(_) => {}
     }
 }

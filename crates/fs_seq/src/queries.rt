@@ -1,23 +1,24 @@
 //! The calls that change nothing: they answer what is at a path.
 
-ghost use Rattle.std.specs.Prelude.{◌≡◌, ◌≢◌, ◌≤◌, length, Some, MatchResult, IfOk, OnOk, OnErr, IsTrue, min, map, take, drop};
+ghost use Rattle.std.specs.Prelude.{◌≡◌, ◌≢◌, ◌≤◌, ◌+◌, ◌-◌, ◌*◌, ◌++◌, length, Some, MatchResult, IfOk, OnOk, OnErr, IsTrue, min, map, take, drop};
 ghost use Rattle.std.specs.FinMap.{is_sorted};
 ghost use Rattle.fs_names.specs.Names.{name_cmp, names_above};
 ghost use Rattle.fs_names.specs.Keys.{last_of};
 ghost use Rattle.fs_names.specs.declared.limits.Limits.{Limits};
+ghost use Rattle.fs_names.specs.declared.name_list.TheConstants.{NAME_TEXT};
 ghost use Rattle.fs_names.specs.declared.limits.Limits.TheVariants.{V1};
 ghost use Rattle.fs_calls.specs.Outcomes.{reply};
 ghost use Rattle.fs_calls.specs.Sights.{has_any, bytes_of};
 ghost use Rattle.fs_calls.specs.code.Targets.{node_call};
 ghost use Rattle.fs_slab.specs.code.Nodes.{graph, pairs, place};
-ghost use Rattle.fs_slab.specs.code.Slots.{IsForest, shape_of, tree_of};
+ghost use Rattle.fs_slab.specs.code.Slots.{IsForest, links_of, shape_of, tree_of};
 ghost use Rattle.fs_seq.specs.Memory.{needs_memory};
 ghost use Rattle.fs_seq.specs.code.Effects.{IsFound, NeedsMemory, node_error};
 
 use fs_calls::{Bytes, Call, Errno, NameList, NodeCall, Reply};
 use fs_memory::Memory;
 use fs_names::{Kind, LIST_LIMIT, Limits, NameRoom, Path};
-use fs_slab::nodes::{above, resolve};
+use fs_slab::nodes::resolve;
 use fs_slab::{Link, Node};
 use slab::Slab;
 use std::alloc::{AllocError, Global};
@@ -52,17 +53,40 @@ pub fn stat(nodes: &Slab<Node>, path: &Path) -> Reply
     }
 }
 
-/// The names of links, no more than a call answers, in their order.
-fn names_of(alloc: Global, memory: &mut Memory, links: &[Link]) -> Result<NameList, AllocError>
-    requires { length links.now ≤ LIST_LIMIT }
-    ensures ok { IfOk result (λ names. names ≡ map (λ l. l.0) (pairs links.now)) }
-    ensures memory { OnErr result (IsTrue (has_any (map (λ l. l.0) (pairs links.now)))) }
+/// Adds the names of links, for which there is room.
+fn push_names(names: &mut NameRoom, links: &[Link])
+    requires { length links.now * NAME_TEXT ≤ names.old.room }
+    ensures names { names.new.names ≡ names.old.names ++ map (λ l. l.0) (pairs links.now) }
+    ensures room { names.old.room ≤ names.new.room + length links.now * NAME_TEXT }
+{
+    for link in links {
+        names.push_reserved(link.name.name());
+    }
+}
+
+/// The names of a directory's entries from a place on up to another, no more than a call answers, in their order.
+fn names_of(
+    alloc: Global,
+    memory: &mut Memory,
+    node: &Node,
+    from: usize,
+    end: usize,
+) -> Result<NameList, AllocError>
+    requires from { from ≤ end }
+    requires end { end ≤ length (links_of (Some (place node.now))) }
+    requires most { end - from ≤ LIST_LIMIT }
+    ensures ok { IfOk result (λ names. names ≡ take (end - from) (drop from (map (λ l. l.0) (links_of (Some (place node.now)))))) }
+    ensures memory { OnErr result (IsTrue (has_any (take (end - from) (drop from (map (λ l. l.0) (links_of (Some (place node.now)))))))) }
     ensures granted { OnOk result (memory.new ≡ memory.old) }
     ensures refused { OnErr result (memory.new ≢ memory.old) }
 {
-    let mut names = NameRoom::for_names(alloc, memory, links.len())?;
-    for link in links {
-        names.push_reserved(link.name.name());
+    let mut names = NameRoom::for_names(alloc, memory, end - from)?;
+    let mut at = from;
+    while at < end {
+        let links = node.from(at);
+        let links = &links[..links.len().min(end - at)];
+        push_names(&mut names, links);
+        at += links.len();
     }
     Ok(names.into_list())
 }
@@ -83,21 +107,24 @@ pub fn readdir(
     match find(nodes, path, NodeCall::Readdir) {
         Err(errno) => Ok(Reply::Failed(errno)),
         Ok(node) => {
-            let names = names_of(alloc, memory, node.links())?;
+            let names = names_of(alloc, memory, node, 0, node.entries())?;
             Ok(Reply::Names(names))
         }
     }
 }
 
-/// The links whose names a list returns: those above a path's last name, and no more than a count.
-fn piece<'a>(links: &'a [Link], after: &Path, count: u32) -> &'a [Link]
-    requires { IsTrue (is_sorted name_cmp (pairs links.now)) }
-    ensures most { length result.now ≤ LIST_LIMIT }
-    ensures names { map (λ l. l.0) (pairs result.now) ≡ take (min count LIST_LIMIT) (names_above (last_of after.now) (map (λ l. l.0) (pairs links.now))) }
+/// The entries whose names a list returns: those above a path's last name, and no more than a count. It answers the place of the first,
+/// and the one after the last.
+fn piece(node: &Node, after: &Path, count: u32) -> (usize, usize)
+    requires { IsTrue (is_sorted name_cmp (links_of (Some (place node.now)))) }
+    ensures from { result.0 ≤ result.1 }
+    ensures end { result.1 ≤ length (links_of (Some (place node.now))) }
+    ensures most { result.1 - result.0 ≤ LIST_LIMIT }
+    ensures names { take (result.1 - result.0) (drop result.0 (map (λ l. l.0) (links_of (Some (place node.now))))) ≡ take (min count LIST_LIMIT) (names_above (last_of after.now) (map (λ l. l.0) (links_of (Some (place node.now))))) }
 {
-    let rest = above(links, after.last_bytes());
+    let from = node.above(after.last_bytes());
     let most = (count as usize).min(LIST_LIMIT);
-    &rest[..most.min(rest.len())]
+    (from, from + most.min(node.entries() - from))
 }
 
 /// Names of a directory above a path's last name, in byte order, and no more than a count.
@@ -118,7 +145,8 @@ pub fn list(
     match find(nodes, path, NodeCall::ListAfter(after, count)) {
         Err(errno) => Ok(Reply::Failed(errno)),
         Ok(node) => {
-            let names = names_of(alloc, memory, piece(node.links(), after, count))?;
+            let (from, end) = piece(node, after, count);
+            let names = names_of(alloc, memory, node, from, end)?;
             Ok(Reply::Names(names))
         }
     }

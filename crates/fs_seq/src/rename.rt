@@ -3,7 +3,7 @@
 ghost use Rattle.std.specs.Prelude.{◌≡◌, ◌≢◌, ◌<◌, ◌≤◌, Option, None, Some, IsTrue, IsSome, IfOk, OnOk, OnErr, length, remove, slice_get};
 ghost use Rattle.std.specs.FinMap.{find, put, is_sorted};
 ghost use Rattle.fs_names.specs.Names.{Name, name_cmp};
-ghost use Rattle.fs_slab.specs.code.Nodes.{pair, pairs, graph, name_of};
+ghost use Rattle.fs_slab.specs.code.Nodes.{graph, name_of};
 ghost use Rattle.fs_slab.specs.code.Slots.{IsForest, Sets, place_at, links_at, shape_at, tree_of, Dir as IsDir};
 ghost use Rattle.fs_calls.specs.Sights.{Shape};
 ghost use Rattle.fs_calls.specs.Rows.{place_fault};
@@ -19,7 +19,7 @@ use fs_calls::rows::PairSight;
 use fs_calls::{Call, Errno, PairCall, Reply, Sight, rename_error};
 use fs_memory::Memory;
 use fs_names::{Limits, Name, Path};
-use fs_slab::nodes::{add_link, look_up, remove_link, search, sight_of};
+use fs_slab::nodes::{add_link, look_up, remove_link, sight_of};
 use fs_slab::{Entry, HeldName, Link, Node, Spot};
 use slab::Slab;
 use std::alloc::{AllocError, Global};
@@ -89,32 +89,6 @@ fn decide(nodes: &Slab<Node>, from: &Path, to: &Path, limits: Limits) -> Result<
     }
 }
 
-/// Gives a link another name and another number.
-fn reset(link: &mut Link, name: Name, node: usize)
-    ensures { pair link.new ≡ (name, node) }
-{
-    link.name.set(name);
-    link.node = node;
-}
-
-/// Takes the link at a place out, and puts it back under a name, where it belongs, in the capacity that it had.
-fn replace(links: &mut Vec<Link>, i: usize, name: Name, node: usize)
-    requires within { i < length (pairs links.old.items) }
-    requires rising { IsTrue (is_sorted name_cmp (remove (pairs links.old.items) i)) }
-    requires absent { find name_cmp name (remove (pairs links.old.items) i) ≡ None }
-    ensures { pairs links.new.items ≡ put name_cmp name node (remove (pairs links.old.items) i) }
-{
-    let mut link = links.remove(i);
-    let Err(at) = search(links, &name) else {
-        unreachable!();
-    };
-    reset(&mut link, name, node);
-    match links.insert(at, link) {
-        Ok(()) => {}
-        Err(_) => unreachable!(),
-    }
-}
-
 /// Takes the link at a place of a directory out, and puts it back under a name, where it belongs.
 fn replace_link(nodes: &mut Slab<Node>, dir: usize, i: usize, name: Name, node: usize)
     requires directory { place_at (graph nodes.old) dir ≡ Some (IsDir (links_at (graph nodes.old) dir)) }
@@ -124,7 +98,7 @@ fn replace_link(nodes: &mut Slab<Node>, dir: usize, i: usize, name: Name, node: 
     ensures { Sets (graph nodes.old) (graph nodes.new) dir (Some (IsDir (put name_cmp name node (remove (links_at (graph nodes.old) dir) i)))) }
 {
     match &mut nodes[dir] {
-        Node::Dir(links) => replace(links, i, name, node),
+        Node::Dir(links) => links.replace(i, name, node),
         Node::File(_) => {}
     }
 }
@@ -169,7 +143,7 @@ fn transfer(
         name: held,
         node: entry.node,
     };
-    add_link(memory, nodes, dir, place, link)?;
+    add_link(alloc, memory, nodes, dir, place, link)?;
     remove_link(nodes, entry.dir, entry.place);
     Ok(())
 }

@@ -15,7 +15,7 @@ use fs_memory::Memory;
 use fs_names::{Limits, Path};
 use fs_rows::from_rows::{self, NotTree};
 use fs_rows::rows::{self, Row};
-use fs_slab::{Node, copying};
+use fs_slab::{Links, Node, copying};
 use slab::Slab;
 use std::alloc::{AllocError, Global};
 use std::marker::Model;
@@ -54,7 +54,7 @@ impl SeqTree {
         ensures { IfOk result (λ tree. tree ≡ root_start limits) }
     {
         let mut nodes = Slab::new(alloc);
-        match nodes.insert(Node::Dir(Vec::new(alloc))) {
+        match nodes.insert(Node::Dir(Links::new(alloc))) {
             Ok(_) => Ok(SeqTree { nodes, limits }),
             Err(_) => Err(AllocError),
         }

@@ -1,3 +1,7 @@
+pub mod FlatLemmas
+pub mod LinkLemmas
+pub mod ListSearch
+pub mod ListEdits
 pub mod GraphLemmas
 pub mod Edits
 pub mod GraphMade

@@ -10,7 +10,7 @@ use Rattle.fs_slab.specs.declared.nodes.Link.{Link}
 use Rattle.fs_slab.specs.declared.nodes.Node.{Node}
 use Rattle.fs_slab.specs.declared.nodes.Node.TheVariants as nodes
 use Rattle.fs_slab.specs.code.Slots.{Place, Dir, File, Slots, place_at, links_of, node_of, links_at, child, node_at}
-use Rattle.fs_slab.specs.code.Nodes.{verdict, pairs, place, tree_node, slot_place, graph, number_of, name_of, IsNameAt, BelongsAt}
+use Rattle.fs_slab.specs.code.Nodes.{verdict, pairs, place, tree_node, slot_place, graph, number_of, name_of, IsNameAt}
 
 -- the place of a number is that of its slot
 pub place_of_slot : (slots : List (Option Node)) (n : ℕ) → place_at (map slot_place slots) n ≡ slot_place (get_or slots n None)
@@ -83,12 +83,12 @@ length-pairs [] = refl
 length-pairs (l ∷ links) = ap suc (length-pairs links)
 
 -- a step by a name that stands among the links
-pub step_found : (g : Slots) (n : ℕ) (x : Name) (links : List Link) (i : ℕ) (l : Link) → place_at g n ≡ Some (Dir (pairs links)) → IsNameAt (pairs links) x i → l ≡ get_or links i l → child g n x ≡ Some l.node
-step_found g n x links i l at stands e = child_got g n x _ at ∙ stands.found ∙ number_read links i l stands.within e
+pub step_found : (g : Slots) (n : ℕ) (x : Name) (links : List (Name × ℕ)) (i m : ℕ) → place_at g n ≡ Some (Dir links) → IsNameAt links x i → number_of (slice_get links i) ≡ Some m → child g n x ≡ Some m
+step_found g n x links i m at stands e = child_got g n x _ at ∙ stands.found ∙ e
 
 -- a step by a name that does not, and a step from a file
-pub step_missing : (g : Slots) (n : ℕ) (x : Name) (links : List (Name × ℕ)) (i : ℕ) → place_at g n ≡ Some (Dir links) → BelongsAt links x i → (child g n x ≡ None) × (verdict (node_at g n) ≡ Some Enoent)
-step_missing g n x links i at belongs = (child_got g n x _ at ∙ belongs.absent, ap (λ o. verdict (node_of o)) at)
+pub step_missing : (g : Slots) (n : ℕ) (x : Name) (links : List (Name × ℕ)) → place_at g n ≡ Some (Dir links) → find name_cmp x links ≡ None → (child g n x ≡ None) × (verdict (node_at g n) ≡ Some Enoent)
+step_missing g n x links at absent = (child_got g n x _ at ∙ absent, ap (λ o. verdict (node_of o)) at)
 
 -- a step from a file
 pub step_file : (g : Slots) (n : ℕ) (x : Name) (file : FileValue) → place_at g n ≡ Some (File file) → (child g n x ≡ None) × (verdict (node_at g n) ≡ Some Enotdir)

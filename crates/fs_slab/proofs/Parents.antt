@@ -1,5 +1,5 @@
 -- The parent of a path, and what stands in it, in the tree that a graph spells.
-use Rattle.std.proofs.Common.{◌≡◌, ℕ, ◌+◌, List, length, take, get_or, slice_get, Some, None, refl, sym, ap, subst, ◌∙◌}
+use Rattle.std.proofs.Common.{◌≡◌, ℕ, ◌+◌, List, length, take, slice_get, Some, None, refl, sym, ap, subst, ◌∙◌}
 use Rattle.fs_names.specs.Names.{Name}
 use Rattle.fs_names.specs.Keys.{Key, parent_of, last_of}
 use Rattle.fs_names.specs.Failures.{check}
@@ -11,7 +11,7 @@ use Rattle.fs_calls.specs.Sights.{tree_shapes, is_file}
 use Rattle.fs_calls.specs.Outcomes.{resolution, parents_resolution}
 use Rattle.fs_calls.specs.Rows.{as_dir}
 use Rattle.fs_slab.specs.code.Slots.{Place, Dir, File, Slots, place_at, links_at, child, walk, tree_of, shape_of, IsForest}
-use Rattle.fs_slab.specs.code.Nodes.{pairs, IsNameAt, BelongsAt, IsTaken, IsFree}
+use Rattle.fs_slab.specs.code.Nodes.{pairs, IsNameAt, BelongsAt, IsTaken, IsFree, number_of}
 use Rattle.fs_slab.proofs.Resolving.{resolution_walked, seen_at}
 use Rattle.fs_slab.proofs.NodeLemmas.{take_parent, last_got, links_got, step_found, length-pairs}
 
@@ -28,16 +28,16 @@ parents_found g p dir at forest w is = (λ i. as_dir (resolution_walked g (paren
     by_place (File file) = refl
 
 -- a name that was found in the parent
-pub is_taken : (g : Slots) (p : Key) (n dir i : ℕ) (x : Name) (links : List Link) (l : Link) → n + 1 ≡ length p → slice_get p n ≡ Some x → walk g (take n p) ≡ Some dir → place_at g dir ≡ Some (Dir (pairs links)) → IsNameAt (pairs links) x i → l ≡ get_or links i l
-    → IsTaken g p dir i l.node
-is_taken g p n dir i x links l len named w at stands read =
+pub is_taken : (g : Slots) (p : Key) (n dir i : ℕ) (x : Name) (links : List Link) (m : ℕ) → n + 1 ≡ length p → slice_get p n ≡ Some x → walk g (take n p) ≡ Some dir → place_at g dir ≡ Some (Dir (pairs links)) → IsNameAt (pairs links) x i → number_of (slice_get (pairs links) i) ≡ Some m
+    → IsTaken g p dir i m
+is_taken g p n dir i x links m len named w at stands read =
     let last : x ≡ last_of p = sym (last_got p n x len named) in
     let same : pairs links ≡ links_at g dir = sym (links_got g dir _ at) in
     record {
       parent = ap (walk g) (sym (take_parent p n len)) ∙ w;
       directory = at ∙ ap (λ ls. Some (Dir ls)) same;
       stands = subst (λ z. IsNameAt (links_at g dir) z i) last (subst (λ ls. IsNameAt ls x i) same stands);
-      leads = ap (child g dir) (sym last) ∙ step_found g dir x links i l at stands read;
+      leads = ap (child g dir) (sym last) ∙ step_found g dir x (pairs links) i m at stands read;
     }
 
 -- a name that was not

@@ -9,7 +9,8 @@ use Rattle.std.specs.FinMap.Entries.{by_order, below_all}
 use Rattle.fs_names.specs.Names.{Name, name_cmp, same_name, names_above}
 use Rattle.fs_names.proofs.Lemmas.{name_total, name_exact, same_name_refl}
 use Rattle.fs_slab.specs.declared.nodes.Link.{Link}
-use Rattle.fs_slab.specs.code.Nodes.{pair, pairs, without, IsNameAt, BelongsAt, Searches}
+use Rattle.fs_slab.specs.code.Entries.{pair, pairs, without, IsNameAt, BelongsAt, Searches}
+use Rattle.fs_slab.specs.code.Lists.{Parts, Bisects, is_within}
 
 -- the first of two
 pub both_first : (a b : Bool) → T (a && b) → T a
@@ -34,7 +35,7 @@ below_each x (l ∷ links) zero d below h = is_less _ (both_first _ _ below)
 below_each x (l ∷ links) (suc i) d below h = below_each x links i d (both_second _ _ below) (omega arith)
 
 -- an order's number is at most two
-up_to_two : (o : Ordering) → ordering_index o ≤ 2
+pub up_to_two : (o : Ordering) → ordering_index o ≤ 2
 up_to_two Less = omega arith
 up_to_two Equal = omega arith
 up_to_two Greater = omega arith
@@ -57,14 +58,8 @@ searchable x (l ∷ links) sorted zero (suc j) d le h = lower_index l.name (get_
 searchable x (l ∷ links) sorted (suc i) zero d le h = absurd (omega arith)
 searchable x (l ∷ links) sorted (suc i) (suc j) d le h = searchable x links (both_second _ _ sorted) i j d (omega arith) (omega arith)
 
--- a place is after all lower names, and before all higher ones
-pub record Parts (x : Name) (links : List Link) (i : ℕ) : Type 0 where
-  pub lower : (k : ℕ) (d : Link) → k < i → name_cmp (get_or links k d).name x ≡ Less
-  pub higher : (k : ℕ) (d : Link) → i ≤ k → k < length links → name_cmp (get_or links k d).name x ≡ Greater
-  pub within : i ≤ length links
-
 -- an order the other way round
-turned : (x y : Name) (o : Ordering) → name_cmp y x ≡ o → name_cmp x y ≡ ordering_reverse o
+pub turned : (x y : Name) (o : Ordering) → name_cmp y x ≡ o → name_cmp x y ≡ ordering_reverse o
 turned x y o e = name_total.antisymm x y ∙ ap ordering_reverse e
 
 -- what is below all is put first
@@ -146,21 +141,22 @@ in_place x (l ∷ links) (suc i) sorted h at =
     }
 
 -- what is true holds
-true_T : (b : Bool) → b ≡ true → T b
+pub true_T : (b : Bool) → b ≡ true → T b
 true_T b e = subst T (sym e) tt
 
 -- what a binary search answers
-pub searched : (x : Name) (links : List Link) (r : Result ℕ ℕ) → is_sorted name_cmp (pairs links) ≡ true → IsSearchInRange r (length links) → IsBinarySearchResult (λ (l : Link). name_cmp l.name x) links r → Searches (pairs links) x r
-searched x links (Ok i) sorted range at = in_place x links i (true_T _ sorted) range at
-searched x links (Err i) sorted range at =
+pub bisected : (x : Name) (links : List Link) (r : Result ℕ ℕ) → is_sorted name_cmp (pairs links) ≡ true → IsSearchInRange r (length links) → IsBinarySearchResult (λ (l : Link). name_cmp l.name x) links r → Bisects x links r
+bisected x links (Ok i) sorted range at = record { within = range; same = at }
+bisected x links (Err i) sorted range at =
     let cut = at (searchable x links (true_T _ sorted)) in
-    parted x links i (record { lower = λ k d h. cut.0 k d (omega arith) h; higher = λ k d h g. cut.1 k d h g; within = range })
+    record { lower = λ k d h. cut.0 k d (omega arith) h; higher = λ k d h g. cut.1 k d h g; within = range }
+
+-- so the name is there, or belongs there
+pub searched : (x : Name) (links : List Link) (r : Result ℕ ℕ) → is_sorted name_cmp (pairs links) ≡ true → Bisects x links r → Searches (pairs links) x r
+searched x links (Ok i) sorted at = in_place x links i (true_T _ sorted) at.within at.same
+searched x links (Err i) sorted at = parted x links i at
 
 -- ---- names above a name
-
--- whether a link's name is not above one
-abbrev pub is_within : Name → Link → Bool
-is_within x l = not (is_lt (name_cmp x l.name))
 
 -- an order is not less the other way round where its number is at most one
 up_to_one : (o : Ordering) → not (is_lt (ordering_reverse o)) ≡ leb (ordering_index o) 1

@@ -1,14 +1,15 @@
 -- What becomes of the graph when a node of the slab is written, added or removed.
 use Rattle.std.proofs.Common.{◌≡◌, ◌≢◌, ℕ, zero, suc, List, [], ◌∷◌, map, get_or, Some, None, Option, refl, sym, ap, subst, ◌∙◌}
-use Rattle.std.specs.Prelude.{insert, remove, slice_set}
+use Rattle.std.specs.Prelude.{insert, slice_set}
 use Rattle.slab.specs.Slab.{Slab, get, with_value, Updates}
 use Rattle.fs_blocks.specs.Files.{FileValue}
 use Rattle.fs_names.specs.Names.{Name}
 use Rattle.fs_slab.specs.declared.nodes.Link.{Link}
 use Rattle.fs_slab.specs.declared.nodes.Node.{Node}
 use Rattle.fs_slab.specs.code.Slots.{Place, Dir, File, place_at, links_at, Sets, Attaches}
-use Rattle.fs_slab.specs.code.Nodes.{pair, pairs, place, slot_place, graph}
+use Rattle.fs_slab.specs.code.Nodes.{pairs, place, slot_place, graph}
 use Rattle.fs_slab.proofs.NodeLemmas.{place_of_slot, place_got, place_missing, links_got}
+pub use Rattle.fs_slab.proofs.LinkLemmas.{pairs-insert, pairs-remove}
 
 -- a slot that was written
 slot_here : (slots : List (Option Node)) (n : ℕ) (old node : Node) → get_or slots n None ≡ Some old → get_or (slice_set slots n (Some node)) n None ≡ Some node
@@ -49,20 +50,6 @@ sets_slot s t n o updates = record {
   here = place_of_slot t.slots n ∙ ap slot_place updates.changed;
   elsewhere = λ j ne. place_of_slot t.slots j ∙ ap slot_place (updates.others j ne) ∙ sym (place_of_slot s.slots j);
 }
-
--- the pairs after an insertion
-pub pairs-insert : (links : List Link) (i : ℕ) (l : Link) → pairs (insert links i l) ≡ insert (pairs links) i (pair l)
-pairs-insert [] zero l = refl
-pairs-insert [] (suc i) l = refl
-pairs-insert (m ∷ links) zero l = refl
-pairs-insert (m ∷ links) (suc i) l = ap (λ z. pair m ∷ z) (pairs-insert links i l)
-
--- the pairs after a removal
-pub pairs-remove : (links : List Link) (i : ℕ) → pairs (remove links i) ≡ remove (pairs links) i
-pairs-remove [] zero = refl
-pairs-remove [] (suc i) = refl
-pairs-remove (m ∷ links) zero = refl
-pairs-remove (m ∷ links) (suc i) = ap (λ z. pair m ∷ z) (pairs-remove links i)
 
 -- a place that is one is one
 some_place : (P Q : Place) → Some P ≡ Some Q → P ≡ Q

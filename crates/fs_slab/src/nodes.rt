@@ -1,15 +1,17 @@
 //! Nodes in a slab, walks along names, and the entries of directories.
 
-ghost use Rattle.std.specs.Prelude.{◌≡◌, ◌≢◌, ◌<◌, ◌≤◌, ◌+◌, ◌++◌, Some, IfSome, IsTrue, OnOk, OnErr, length, map, take, drop, insert, remove, vec_len, vec_capacity};
+ghost use Rattle.std.specs.Prelude.{◌≡◌, ◌≢◌, ◌<◌, ◌≤◌, ◌+◌, ◌-◌, ◌++◌, Some, IfSome, IsTrue, OnOk, OnErr, length, map, take, drop, insert, remove, vec_len, vec_capacity};
 ghost use Rattle.std.specs.FinMap.{is_sorted};
 ghost use Rattle.slab.specs.Slab.{ContainsKey, HasRoomFor};
 ghost use Rattle.fs_names.specs.Names.{name_cmp, names_above};
 ghost use Rattle.fs_calls.specs.Sights.{bytes_of};
 ghost use Rattle.fs_calls.specs.code.Seen.{sight};
 ghost use Rattle.fs_slab.specs.code.Nodes.{pair, pairs, place, graph, Searches, Steps, Resolves, LooksUp, number_there, shape_there, place_there, entry_there, full_there};
+ghost use Rattle.fs_slab.specs.code.Lists.{Bisects, IsCut};
 ghost use Rattle.fs_slab.specs.code.Slots.{IsForest, Sets, Attaches, place_at, links_at, links_of, shape_at, shape_of, Dir as IsDir};
 
 use crate::held_name::HeldName;
+use crate::links::Links;
 use fs_blocks::File;
 use fs_calls::ranges::is_full;
 use fs_calls::rows::step_error;
@@ -37,7 +39,7 @@ pub struct Entry {
 /// A directory with its entries in byte order, or a file with its bytes.
 #[derive(Drop)]
 pub enum Node {
-    Dir(Vec<Link>),
+    Dir(Links),
     File(File),
 }
 
@@ -60,13 +62,51 @@ impl Node {
         }
     }
 
-    /// The entries of a directory; a file has none.
-    pub fn links(&self) -> &[Link]
-        ensures { pairs result.now ≡ links_of (Some (place self.now)) }
+    /// How many entries a directory has; a file has none.
+    pub fn entries(&self) -> usize
+        ensures { result ≡ length (links_of (Some (place self.now))) }
     {
         match self {
-            Node::Dir(links) => links,
-            Node::File(_) => &[],
+            Node::Dir(links) => links.len(),
+            Node::File(_) => 0,
+        }
+    }
+
+    /// The entries of a directory from a place on, as many as are side by side.
+    pub fn from(&self, first: usize) -> &[Link]
+        requires { first < length (links_of (Some (place self.now))) }
+        ensures part { pairs result.now ≡ take (length result.now) (drop first (links_of (Some (place self.now)))) }
+        ensures some { 0 < length result.now }
+    {
+        match self {
+            Node::Dir(links) => links.from(first),
+            Node::File(_) => unreachable!(),
+        }
+    }
+
+    /// The entries of a directory before a place, as many as are side by side.
+    pub fn until(&self, end: usize) -> &[Link]
+        requires some { 0 < end }
+        requires end { end ≤ length (links_of (Some (place self.now))) }
+        ensures part { take end (links_of (Some (place self.now))) ≡ take (end - length result.now) (links_of (Some (place self.now))) ++ pairs result.now }
+        ensures some { 0 < length result.now }
+    {
+        match self {
+            Node::Dir(links) => links.until(end),
+            Node::File(_) => unreachable!(),
+        }
+    }
+
+    /// The place among the entries of a directory from which names are above these bytes, which are all names where there are
+    /// no bytes.
+    pub fn above(&self, bytes: &[u8]) -> usize
+        requires { IsTrue (is_sorted name_cmp (links_of (Some (place self.now)))) }
+        ensures place { result ≤ length (links_of (Some (place self.now))) }
+        ensures names { map (λ l. l.0) (drop result (links_of (Some (place self.now)))) ≡ names_above bytes.now (map (λ l. l.0) (links_of (Some (place self.now)))) }
+    {
+        match self {
+            Node::Dir(links) => links.above(bytes),
+            Node::File(_) => 0,
         }
     }
 
@@ -146,25 +186,42 @@ impl Spot {
     }
 }
 
+/// Gives a link another name and another number.
+pub fn reset(link: &mut Link, name: Name, node: usize)
+    ensures { pair link.new ≡ (name, node) }
+{
+    link.name.set(name);
+    link.node = node;
+}
+
+/// Where a name is among links, or the place after all lower names and before all higher ones.
+#[inline]
+pub fn bisect(links: &[Link], name: &Name) -> Result<usize, usize>
+    requires { IsTrue (is_sorted name_cmp (pairs links.now)) }
+    ensures { Bisects name.now links.now result }
+{
+    links.binary_search_by(|link| link.name.cmp(name))
+}
+
 /// Where a name is among the links, or where it belongs.
 #[inline]
 pub fn search(links: &[Link], name: &Name) -> Result<usize, usize>
     requires { IsTrue (is_sorted name_cmp (pairs links.now)) }
     ensures { Searches (pairs links.now) name.now result }
 {
-    links.binary_search_by(|link| link.name.cmp(name))
+    bisect(links, name)
 }
 
-/// The links whose names are above these bytes, which are all links where there are no bytes.
-pub fn above<'a>(links: &'a [Link], bytes: &[u8]) -> &'a [Link]
+/// How many links come before those whose names are above these bytes, which are all links where there are no bytes.
+pub fn above(links: &[Link], bytes: &[u8]) -> usize
     requires { IsTrue (is_sorted name_cmp (pairs links.now)) }
-    ensures { map (λ l. l.0) (pairs result.now) ≡ names_above bytes.now (map (λ l. l.0) (pairs links.now)) }
+    ensures { IsCut bytes.now links.now result }
 {
-    let from = links.partition_point(|link| !link.name.is_above(bytes));
-    &links[from..]
+    links.partition_point(|link| !link.name.is_above(bytes))
 }
 
 /// The number to which a name leads from a node.
+#[inline(always)]
 pub fn step(nodes: &Slab<Node>, at: usize, name: &Name) -> Result<usize, Errno>
     requires there { ContainsKey nodes.now at }
     requires rising { IsTrue (is_sorted name_cmp (links_at (graph nodes.now) at)) }
@@ -172,9 +229,9 @@ pub fn step(nodes: &Slab<Node>, at: usize, name: &Name) -> Result<usize, Errno>
 {
     match &nodes[at] {
         Node::File(_) => Err(step_error(true)),
-        Node::Dir(links) => match search(links, name) {
-            Ok(i) => Ok(links[i].node),
-            Err(_) => Err(step_error(false)),
+        Node::Dir(links) => match links.node(name) {
+            Some(node) => Ok(node),
+            None => Err(step_error(false)),
         },
     }
 }
@@ -208,35 +265,16 @@ pub fn look_up(nodes: &Slab<Node>, path: &Path) -> Result<Spot, Errno>
     };
     match &nodes[dir] {
         Node::File(_) => Err(step_error(true)),
-        Node::Dir(links) => match search(links, path.name(last)) {
-            Ok(i) => Ok(Spot::Taken(dir, i, links[i].node)),
+        Node::Dir(links) => match links.search(path.name(last)) {
+            Ok((i, node)) => Ok(Spot::Taken(dir, i, node)),
             Err(i) => Ok(Spot::Free(dir, i, links.len())),
         },
     }
 }
 
-/// Adds a link at a place among others.
-fn insert_link(
-    memory: &mut Memory,
-    links: &mut Vec<Link>,
-    i: usize,
-    link: Link,
-) -> Result<(), AllocError>
-    requires { i ≤ vec_len links.old }
-    ensures ok { OnOk result (links.new.items ≡ insert links.old.items i link) }
-    ensures err { OnErr result (links.new.items ≡ links.old.items) }
-    ensures granted { OnOk result (memory.new ≡ memory.old) }
-    ensures refused { OnErr result (memory.new ≢ memory.old) }
-{
-    memory.reserve(links, 1)?;
-    match links.insert(i, link) {
-        Ok(()) => Ok(()),
-        Err(_) => unreachable!(),
-    }
-}
-
 /// Adds an entry to a directory at a place.
 pub fn add_link(
+    alloc: Global,
     memory: &mut Memory,
     nodes: &mut Slab<Node>,
     dir: usize,
@@ -253,7 +291,7 @@ pub fn add_link(
     ensures refused { OnErr result (memory.new ≢ memory.old) }
 {
     match &mut nodes[dir] {
-        Node::Dir(links) => insert_link(memory, links, i, link),
+        Node::Dir(links) => links.insert(alloc, memory, i, link),
         Node::File(_) => Ok(()),
     }
 }
@@ -282,7 +320,7 @@ pub fn attach(
         name: held,
         node: number,
     };
-    add_link(memory, nodes, dir, i, link)?;
+    add_link(alloc, memory, nodes, dir, i, link)?;
     nodes.insert_reserved(node);
     Ok(())
 }
@@ -294,9 +332,7 @@ pub fn remove_link(nodes: &mut Slab<Node>, dir: usize, i: usize)
     ensures { Sets (graph nodes.old) (graph nodes.new) dir (Some (IsDir (remove (links_at (graph nodes.old) dir) i))) }
 {
     match &mut nodes[dir] {
-        Node::Dir(links) => {
-            links.remove(i);
-        }
+        Node::Dir(links) => links.remove(i),
         Node::File(_) => {}
     }
 }

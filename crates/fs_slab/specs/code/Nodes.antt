@@ -1,15 +1,12 @@
 -- What the nodes of a slab are as a graph.
-use Rattle.std.specs.Prelude.{◌≡◌, ℕ, Bool, false, nat_le, ◌<◌, ◌≤◌, List, map, length, slice_get, insert, remove, not, Option, Some, None, Result, Ok, Err, MatchResult}
-use Rattle.std.specs.FinMap.{find, put}
-use Rattle.std.specs.FinMap.Entries.{where_key}
-use Rattle.fs_names.specs.Names.{Name, name_cmp, same_name}
+use Rattle.std.specs.Prelude.{◌≡◌, ℕ, Bool, false, nat_le, map, length, Option, Some, None, Result, Ok, Err}
+use Rattle.fs_names.specs.Names.{Name}
 use Rattle.fs_names.specs.Keys.{Key, parent_of, last_of}
 use Rattle.fs_names.specs.Shapes.{Shape}
 use Rattle.slab.specs.Slab.{Slab}
 use Rattle.fs_calls.specs.declared.errno.Errno.{Errno}
 use Rattle.fs_calls.specs.declared.errno.Errno.TheVariants.{Enoent, Enotdir}
 use Rattle.fs_slab.specs.declared.nodes.Entry.{Entry}
-use Rattle.fs_slab.specs.declared.nodes.Link.{Link}
 use Rattle.fs_slab.specs.declared.nodes.Node.{Node}
 use Rattle.fs_slab.specs.declared.nodes.Node.TheVariants.{Dir, File}
 use Rattle.fs_slab.specs.declared.nodes.Spot.{Spot}
@@ -18,18 +15,11 @@ use Rattle.fs_calls.specs.Tree as trees
 use Rattle.fs_calls.specs.Outcomes.{resolution, parents_resolution}
 use Rattle.fs_slab.specs.code.Slots.{Place, Slots, place_at, links_at, node_at, shape_at, child, walk, tree_of}
 use Rattle.fs_slab.specs.code.Slots as places
-
--- the name of a link, with its number
-abbrev pub pair : Link → Name × ℕ
-pair l = (l.name, l.node)
-
--- the names of links, each with its number
-abbrev pub pairs : List Link → List (Name × ℕ)
-pairs links = map pair links
+pub use Rattle.fs_slab.specs.code.Entries.{pair, pairs, number_of, name_of, without, IsNameAt, BelongsAt, Searches}
 
 -- the place that a node is
 abbrev pub place : Node → Place
-place (Dir links) = places.Dir (pairs links.items)
+place (Dir links) = places.Dir (pairs links)
 place (File file) = places.File file
 
 -- what a node is in a tree
@@ -45,37 +35,6 @@ slot_place (Some node) = Some (place node)
 -- the places of a slab's slots
 abbrev pub graph : Slab Node → Slots
 graph nodes = map slot_place nodes.slots
-
--- the number of the link at a place
-abbrev pub number_of : Option (Name × ℕ) → Option ℕ
-number_of None = None
-number_of (Some link) = Some link.1
-
--- the name of the link at a place
-abbrev pub name_of : Option (Name × ℕ) → Option Name
-name_of None = None
-name_of (Some link) = Some link.0
-
--- the links without a name
-abbrev pub without : Name → List (Name × ℕ) → List (Name × ℕ)
-without x links = where_key name_cmp (λ y. not (same_name x y)) links
-
--- a name stands at this place among links
-pub record IsNameAt (links : List (Name × ℕ)) (x : Name) (i : ℕ) : Type 0 where
-  pub within : i < length links
-  pub named : name_of (slice_get links i) ≡ Some x
-  pub found : find name_cmp x links ≡ number_of (slice_get links i)
-  pub others : remove links i ≡ without x links
-
--- a name is not among links, and belongs at this place
-pub record BelongsAt (links : List (Name × ℕ)) (x : Name) (i : ℕ) : Type 0 where
-  pub within : i ≤ length links
-  pub absent : find name_cmp x links ≡ None
-  pub placed : (n : ℕ) → put name_cmp x n links ≡ insert links i (x, n)
-
--- where a name stands among links, or where it belongs
-abbrev pub Searches : List (Name × ℕ) → Name → Result ℕ ℕ → Type 0
-Searches links x r = MatchResult r (IsNameAt links x) (BelongsAt links x)
 
 -- what a node says of the names behind its key, none of which leads on
 abbrev pub verdict : Option trees.Node → Option Errno

@@ -1,7 +1,5 @@
-use Rattle.std.proofs.Common.{◌≡◌, Some, Less, sym, ap, ◌∙◌, length}
+use Rattle.std.proofs.Common.{◌≡◌, Some, Less, sym, ap, ◌∙◌, length, refl}
 use Rattle.std.specs.Prelude.{nat_le}
-use Rattle.std.specs.FinMap.{find}
-use Rattle.fs_names.specs.Names.{name_cmp}
 use Rattle.fs_names.specs.Keys.{key_cmp}
 use Rattle.fs_rows.specs.Rows.{key_of, last_key}
 use Rattle.fs_slab.specs.code.Nodes.{graph, pairs}
@@ -23,7 +21,7 @@ index-requires c = has_key c.args.nodes.now c.in-Some-reached.dir (c.requires.fo
 pub search-requires : goal.search-requires
 search-requires c =
     let at = place_got c.args.nodes.now c.in-Some-reached.dir _ (c.index.ensures ∙ ap Some c.in-Dir.is) in
-    rising_got (graph c.args.nodes.now) c.in-Some-reached.dir _ (pairs c.deref-in-Dir.result.now) (c.requires.forest.rising c.in-Some-reached.dir) at (ap pairs (sym c.deref-in-Dir.ensures.value))
+    rising_got (graph c.args.nodes.now) c.in-Some-reached.dir _ (pairs c.in-Dir.links) (c.requires.forest.rising c.in-Some-reached.dir) at refl
 
 pub returns-in-File : goal.returns-in-File
 returns-in-File c =
@@ -32,25 +30,25 @@ returns-in-File c =
 
 pub returns-then-is_full : goal.returns-then-is_full
 returns-then-is_full c =
-    fails_full c.args.limits (graph c.args.nodes.now) c.requires.forest c.args.row.now c.in-Some.parent.now c.in-Some.name.now (sym c.deref.ensures.value ∙ c.in-Some.ensures.cases.0) c.in-Some-reached.dir (sym c.in-Some-reached.ensures) (pairs c.in-Dir.links.items)
+    fails_full c.args.limits (graph c.args.nodes.now) c.requires.forest c.args.row.now c.in-Some.parent.now c.in-Some.name.now (sym c.deref.ensures.value ∙ c.in-Some.ensures.cases.0) c.in-Some-reached.dir (sym c.in-Some-reached.ensures) (pairs c.in-Dir.links)
     (place_got c.args.nodes.now c.in-Some-reached.dir _ (c.index.ensures ∙ ap Some c.in-Dir.is))
-    ((λ i. nat_le (sym c.entries.ensures i) ((length-pairs c.in-Dir.links.items ∙ sym c.in-Dir.links.ok.0 ∙ sym c.len.ensures) i)) ∙ sym c.is_full.ensures ∙ c.if-is_full.true)
+    ((λ i. nat_le (sym c.entries.ensures i) ((length-pairs c.in-Dir.links ∙ sym c.len.ensures) i)) ∙ sym c.is_full.ensures ∙ c.if-is_full.true)
 
 pub returns-in-Ok : goal.returns-in-Ok
 returns-in-Ok c =
     let g = graph c.args.nodes.now in
     let less : key_cmp (last_key (tree_of g)) (key_of c.args.row.now) ≡ Less = ap (λ k. key_cmp k (key_of c.args.row.now)) c.requires.last ∙ (λ j. key_cmp (sym c.deref-2.ensures.value j) (sym c.deref-3.ensures.value j)) ∙ sym c.compare_keys.ensures ∙ less_by_index c.compare_keys.result c.ne.result c.ne.ensures c.if-ne.false in
     let at = place_got c.args.nodes.now c.in-Some-reached.dir _ (c.index.ensures ∙ ap Some c.in-Dir.is) in
-    let to = stands_to (pairs c.deref-in-Dir.result.now) c.in-Some.name.now c.in-Ok.field-0 c.in-Ok.ensures in
+    let to = stands_to (pairs c.in-Dir.links) c.in-Some.name.now _ c.in-Ok.ensures.0 in
     absurd (not_there c.args.limits g c.requires.forest c.args.row.now c.in-Some.parent.now c.in-Some.name.now (sym c.deref.ensures.value ∙ c.in-Some.ensures.cases.0) c.in-Some-reached.dir (sym c.in-Some-reached.ensures) to.0 less
-    (child_got g c.in-Some-reached.dir c.in-Some.name.now _ at ∙ ap (λ links. find name_cmp c.in-Some.name.now (pairs links)) (sym c.deref-in-Dir.ensures.value) ∙ to.1))
+    (child_got g c.in-Some-reached.dir c.in-Some.name.now _ at ∙ to.1))
 
 pub returns-in-Err : goal.returns-in-Err
 returns-in-Err c =
     let g = graph c.args.nodes.now in
     let less : key_cmp (last_key (tree_of g)) (key_of c.args.row.now) ≡ Less = ap (λ k. key_cmp k (key_of c.args.row.now)) c.requires.last ∙ (λ j. key_cmp (sym c.deref-2.ensures.value j) (sym c.deref-3.ensures.value j)) ∙ sym c.compare_keys.ensures ∙ less_by_index c.compare_keys.result c.ne.result c.ne.ensures c.if-ne.false in
-    is_place c.args.limits g c.requires.forest c.args.row.now c.in-Some.parent.now c.in-Some.name.now (sym c.deref.ensures.value ∙ c.in-Some.ensures.cases.0) c.in-Some-reached.dir (sym c.in-Some-reached.ensures) (pairs c.in-Dir.links.items) c.in-Err.i less
+    is_place c.args.limits g c.requires.forest c.args.row.now c.in-Some.parent.now c.in-Some.name.now (sym c.deref.ensures.value ∙ c.in-Some.ensures.cases.0) c.in-Some-reached.dir (sym c.in-Some-reached.ensures) (pairs c.in-Dir.links) c.in-Err.i less
     (place_got c.args.nodes.now c.in-Some-reached.dir _ (c.index.ensures ∙ ap Some c.in-Dir.is))
-    ((λ i. nat_le (sym c.entries.ensures i) ((length-pairs c.in-Dir.links.items ∙ sym c.in-Dir.links.ok.0 ∙ sym c.len.ensures) i)) ∙ sym c.is_full.ensures ∙ c.if-is_full.false)
+    ((λ i. nat_le (sym c.entries.ensures i) ((length-pairs c.in-Dir.links ∙ sym c.len.ensures) i)) ∙ sym c.is_full.ensures ∙ c.if-is_full.false)
     (sym c.may_have.ensures ∙ c.if-not-may_have.false)
-    (rw c.deref-in-Dir.ensures.value at c.in-Err.ensures)
+    c.in-Err.ensures

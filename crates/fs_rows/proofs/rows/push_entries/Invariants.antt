@@ -1,8 +1,16 @@
-use Rattle.std.proofs.Common.{◌≡◌, ◌++◌, drop, reverse}
-use Rattle.fs_slab.specs.code.Nodes.{pairs}
+use Rattle.std.proofs.Common.{◌≡◌, ◌≤◌, ◌++◌, Some, drop, length, reverse}
+use Rattle.fs_slab.specs.code.Nodes.{place}
+use Rattle.fs_slab.specs.code.Slots.{links_of}
 use Rattle.fs_rows.specs.code.Walks.{entries_below}
 use Rattle.fs_rows.proofs.rows.push_entries.Given as goal
 
--- the entries behind are ahead, the last one first
-abbrev pub invariant-loop-i : goal.invariant-loop-i
-invariant-loop-i l = l.ahead.items ≡ l.fn.ahead.items ++ reverse (entries_below l.key (pairs (drop l.i l.links)))
+-- the entries from a place on are ahead, the last one first
+abbrev pub invariant-loop-left : goal.invariant-loop-left
+invariant-loop-left l = record {
+  ahead : l.ahead.items ≡ l.fn.ahead.items ++ reverse (entries_below l.key (drop l.left (links_of (Some (place l.node)))));
+  within : l.left ≤ length (links_of (Some (place l.node)));
+}
+
+-- each round comes to one more at least
+abbrev pub decreases-loop-left : goal.decreases-loop-left
+decreases-loop-left l = l.left

@@ -5,7 +5,7 @@ use Rattle.fs_rows.proofs.Walked.{ahead_by, told_by}
 use Rattle.fs_rows.proofs.rows.visit.Goals as goal
 
 pub returns-clause-ahead : goal.returns-clause-ahead
-returns-clause-ahead c = ahead_by c.args.nodes.now c.args.at c.at.inside.node c.deref.result.now c.index-node.result.now _ c.args.ahead.now.items c.push_entries.new.ahead.items (ap (λ key. (key, c.at.inside.node)) c.deref.ensures.value ∙ c.at.view_is) c.index-node.ensures c.links.ensures c.in_ok-push_entries.ensures
+returns-clause-ahead c = ahead_by c.args.nodes.now c.args.at c.at.inside.node c.deref.result.now c.index-node.result.now c.args.ahead.now.items c.push_entries.new.ahead.items (ap (λ key. (key, c.at.inside.node)) c.deref.ensures.value ∙ c.at.view_is) c.index-node.ensures c.in_ok-push_entries.ensures
 
 pub returns-clause-rows : goal.returns-clause-rows
 returns-clause-rows c = told_by c.args.nodes.now c.args.at c.at.inside.node c.at.inside.key.items c.index-node.result.now c.in_ok-row.row c.args.rows.now.items c.push.new.self.items c.at.view_is c.index-node.ensures c.in_ok-row.ensures.row c.in_ok-push.ensures.items

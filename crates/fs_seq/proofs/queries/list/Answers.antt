@@ -1,4 +1,4 @@
-use Rattle.std.proofs.Common.{List, map, min, take, refl, sym, ap, ◌∙◌}
+use Rattle.std.proofs.Common.{List, min, take, refl, sym, ap, ◌∙◌}
 use Rattle.fs_names.specs.Names.{Name, names_above}
 use Rattle.fs_names.specs.Keys.{last_of}
 use Rattle.fs_names.specs.declared.limits.TheConstants.{LIST_LIMIT}
@@ -12,9 +12,6 @@ use Rattle.fs_seq.proofs.Looked.{looking_fault, failed_reply, found_reply, link_
 use Rattle.fs_seq.proofs.Replies.{needs, on_err}
 use Rattle.fs_seq.proofs.queries.list.Goals as goal
 
-pub names_of-requires : goal.names_of-requires
-names_of-requires c = c.piece.ensures.most
-
 pub returns-in-Err-clause-reply : goal.returns-in-Err-clause-reply
 returns-in-Err-clause-reply c limits =
     let p = c.args.path.now in
@@ -24,7 +21,7 @@ pub returns-in_ok-names-in-Ok-clause-reply : goal.returns-in_ok-names-in-Ok-clau
 returns-in_ok-names-in-Ok-clause-reply c limits =
     let p = c.args.path.now in
     let told = λ (names : List Name). take (min c.args.count LIST_LIMIT) (names_above (last_of c.args.after.now) names) in
-    ap replies.Names (c.in_ok-names-in-Ok.ensures.ok ∙ c.piece.ensures.names ∙ ap told (ap (map (λ l. l.0)) c.links.ensures ∙ link_names (place c.in-Ok.node.now)))
+    ap replies.Names (c.in_ok-names-in-Ok.ensures.ok ∙ c.piece-from.ensures.names ∙ ap told (link_names (place c.in-Ok.node.now)))
     ∙ found_reply limits (ListAfter c.args.count p c.args.after.now) (forms.ListAfter c.args.after.now c.args.count) p refl (tree_of (graph c.args.nodes.now)) _ c.in-Ok.ensures
 
 pub returns-in_err-names-in-Ok-clause-memory : goal.returns-in_err-names-in-Ok-clause-memory
@@ -34,4 +31,4 @@ returns-in_err-names-in-Ok-clause-memory c =
     let told = λ (names : List Name). take (min c.args.count LIST_LIMIT) (names_above (last_of c.args.after.now) names) in
     on_err c.from_residual.result (λ limits. needs limits t (ListAfter c.args.count p c.args.after.now)
     (looking_fault limits (ListAfter c.args.count p c.args.after.now) (forms.ListAfter c.args.after.now c.args.count) p refl t ∙ c.in-Ok.ensures.sound)
-    (ap has_any (ap told (ap names_of c.in-Ok.ensures.shape ∙ sym (link_names (place c.in-Ok.node.now)) ∙ sym (ap (map (λ l. l.0)) c.links.ensures)) ∙ sym c.piece.ensures.names) ∙ c.in_err-names-in-Ok.ensures.memory))
+    (ap has_any (ap told (ap names_of c.in-Ok.ensures.shape ∙ sym (link_names (place c.in-Ok.node.now))) ∙ sym c.piece-from.ensures.names) ∙ c.in_err-names-in-Ok.ensures.memory))

@@ -1,23 +1,20 @@
-use Rattle.std.proofs.Common.{arith, ◌≡◌, length, map, take, min, sym, ap, ◌∙◌}
-use Rattle.std.proofs.lemmas.List.{length-map, length-take, take-map, take_min}
+use Rattle.std.proofs.Common.{arith, ◌≡◌, ◌+◌, ◌-◌, Some, length, length-drop, map, take, drop, min, sym, ap, ◌∙◌}
+use Rattle.std.proofs.lemmas.List.{length-map, take_min}
 use Rattle.fs_names.specs.Names.{names_above}
-use Rattle.fs_slab.specs.code.Nodes.{pair, pairs}
+use Rattle.fs_slab.specs.code.Nodes.{place}
+use Rattle.fs_slab.specs.code.Slots.{links_of}
+use Rattle.fs_seq.proofs.NameParts.{drop_names}
 use Rattle.fs_seq.proofs.queries.piece.Goals as goal
-
-pub returns-clause-most : goal.returns-clause-most
-returns-clause-most c =
-    let cut : length (take c.min.result c.above-rest.result.now) ≡ min c.min.result (length c.above-rest.result.now) = length-take c.min.result c.above-rest.result.now in
-    omega (arith, cut, c.min.ensures, c.min-most.ensures)
 
 pub returns-clause-names : goal.returns-clause-names
 returns-clause-names c =
-    let rest = c.above-rest.result.now in
-    let names = map (λ l. l.0) (pairs rest) in
+    let all = links_of (Some (place c.args.node.now)) in
+    let names = map (λ l. l.0) all in
+    let from = c.above-from.result in
     let most = c.min-most.result in
-    let cut : take c.min.result names ≡ map (λ l. l.0) (pairs (take c.min.result rest)) = take-map (λ l. l.0) c.min.result (pairs rest) ∙ ap (map (λ l. l.0)) (take-map pair c.min.result rest) in
-    let long : length names ≡ length rest = length-map (pairs rest) (λ l. l.0) ∙ length-map rest pair in
-    sym cut
-    ∙ ap (λ n. take n names) (c.min.ensures ∙ ap (min most) (sym long))
-    ∙ take_min most names
-    ∙ ap (λ n. take n names) c.min-most.ensures
-    ∙ ap (take _) (c.above-rest.ensures ∙ ap (λ x. names_above x (map (λ l. l.0) (pairs c.args.links.now))) c.last_bytes.ensures)
+    let rest = drop from names in
+    let long : length rest ≡ length all - from = length-drop from names ∙ ap (λ n. n - from) (length-map all (λ l. l.0)) in
+    let less : from + c.min.result - from ≡ c.min.result = omega arith in
+    let count : from + c.min.result - from ≡ min most (length rest) = less ∙ c.min.ensures ∙ ap (min most) (ap (λ n. n - from) c.entries.ensures ∙ sym long) in
+    ap (λ k. take k rest) count ∙ take_min most rest ∙ ap (λ n. take n rest) c.min-most.ensures
+    ∙ ap (take _) (sym (drop_names all from) ∙ c.above-from.ensures.names ∙ ap (λ x. names_above x names) c.last_bytes.ensures)

@@ -21,7 +21,7 @@ returns-in-Ok-Dir c limits =
     let p = c.args.path.now in
     let t = tree_of (graph c.args.nodes.now) in
     let found = subst (λ z. IsFound t forms.Stat p (place z)) c.in-Ok-Dir.field-0-is c.in-Ok-Dir.ensures in
-    ap (replies.Stat kind.Dir) (c.len.ensures ∙ c.in-Ok-Dir.links.ok.0 ∙ sym (length-pairs c.in-Ok-Dir.links.items) ∙ sym (length-map (pairs c.in-Ok-Dir.links.items) (λ l. l.0)))
+    ap (replies.Stat kind.Dir) (c.len.ensures ∙ sym (length-pairs c.in-Ok-Dir.links) ∙ sym (length-map (pairs c.in-Ok-Dir.links) (λ l. l.0)))
     ∙ found_reply limits (Stat p) forms.Stat p refl t _ found
 
 pub returns-in-Ok-File : goal.returns-in-Ok-File

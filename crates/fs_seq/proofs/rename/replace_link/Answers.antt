@@ -3,7 +3,7 @@ use Rattle.std.specs.FinMap.{find, put, is_sorted}
 use Rattle.fs_names.specs.Names.{name_cmp}
 use Rattle.fs_slab.specs.code.Nodes.{place}
 use Rattle.fs_slab.specs.code.Slots.{Dir}
-use Rattle.fs_slab.proofs.NodeLemmas.{has_key}
+use Rattle.fs_slab.proofs.NodeLemmas.{has_key, length-pairs}
 use Rattle.fs_slab.proofs.SlabLemmas.{sets_value, links_read, dir_not_file}
 use Rattle.fs_seq.proofs.rename.replace_link.Goals as goal
 
@@ -12,22 +12,22 @@ index_mut-requires c = has_key c.args.nodes.now c.args.dir (ap is_some c.require
 
 pub replace-requires-clause-within : goal.replace-requires-clause-within
 replace-requires-clause-within c =
-    let same = links_read c.args.nodes.now c.args.dir _ c.in-Dir.links.items c.index_mut.ensures.value (ap place c.in-Dir.is) in
-    subst (λ n. c.args.i < n) (ap length same) c.requires.within
+    let same = links_read c.args.nodes.now c.args.dir _ c.in-Dir.links c.index_mut.ensures.value (ap place c.in-Dir.is) in
+    subst (λ n. c.args.i < n) (ap length same ∙ length-pairs c.in-Dir.links) c.requires.within
 
 pub replace-requires-clause-rising : goal.replace-requires-clause-rising
 replace-requires-clause-rising c =
-    let same = links_read c.args.nodes.now c.args.dir _ c.in-Dir.links.items c.index_mut.ensures.value (ap place c.in-Dir.is) in
+    let same = links_read c.args.nodes.now c.args.dir _ c.in-Dir.links c.index_mut.ensures.value (ap place c.in-Dir.is) in
     sym (ap (λ z. is_sorted name_cmp (remove z c.args.i)) same) ∙ c.requires.rising
 
 pub replace-requires-clause-absent : goal.replace-requires-clause-absent
 replace-requires-clause-absent c =
-    let same = links_read c.args.nodes.now c.args.dir _ c.in-Dir.links.items c.index_mut.ensures.value (ap place c.in-Dir.is) in
+    let same = links_read c.args.nodes.now c.args.dir _ c.in-Dir.links c.index_mut.ensures.value (ap place c.in-Dir.is) in
     sym (ap (λ z. find name_cmp c.args.name (remove z c.args.i)) same) ∙ c.requires.absent
 
 pub returns-in-Dir : goal.returns-in-Dir
 returns-in-Dir c =
-    let same = links_read c.args.nodes.now c.args.dir _ c.in-Dir.links.items c.index_mut.ensures.value (ap place c.in-Dir.is) in
+    let same = links_read c.args.nodes.now c.args.dir _ c.in-Dir.links c.index_mut.ensures.value (ap place c.in-Dir.is) in
     sets_value c.args.nodes.now c.args.dir _ _ _ c.index_mut.ensures.value
     (ap Dir c.replace.ensures ∙ ap (λ z. Dir (put name_cmp c.args.name c.args.node (remove z c.args.i))) (sym same))
 

@@ -9,24 +9,24 @@ use Rattle.fs_slab.proofs.nodes.add_link.Goals as goal
 pub index_mut-requires : goal.index_mut-requires
 index_mut-requires c = has_key c.args.nodes.now c.args.dir (ap is_some c.requires.directory)
 
-pub insert_link-requires : goal.insert_link-requires
-insert_link-requires c =
-    let same = links_read c.args.nodes.now c.args.dir _ c.in-Dir.links.items c.index_mut.ensures.value (ap place c.in-Dir.is) in
-    subst (λ n. c.args.i ≤ n) (ap length same ∙ length-pairs c.in-Dir.links.items ∙ sym c.in-Dir.links.ok.0) c.requires.within
+pub insert-requires : goal.insert-requires
+insert-requires c =
+    let same = links_read c.args.nodes.now c.args.dir _ c.in-Dir.links c.index_mut.ensures.value (ap place c.in-Dir.is) in
+    subst (λ n. c.args.i ≤ n) (ap length same ∙ length-pairs c.in-Dir.links) c.requires.within
 
 pub returns-in-Dir-clause-ok : goal.returns-in-Dir-clause-ok
 returns-in-Dir-clause-ok c =
-    let same = links_read c.args.nodes.now c.args.dir _ c.in-Dir.links.items c.index_mut.ensures.value (ap place c.in-Dir.is) in
-    IfOk-weaker c.insert_link.result (λ _. c.insert_link.new.links.items ≡ insert c.in-Dir.links.items c.args.i c.args.link) _
+    let same = links_read c.args.nodes.now c.args.dir _ c.in-Dir.links c.index_mut.ensures.value (ap place c.in-Dir.is) in
+    IfOk-weaker c.insert.result (λ _. c.insert.new.self ≡ insert c.in-Dir.links c.args.i c.args.link) _
     (λ _ items. sets_value c.args.nodes.now c.args.dir _ _ _ c.index_mut.ensures.value
-    (ap (λ z. Dir (pairs z)) items ∙ ap Dir (pairs-insert c.in-Dir.links.items c.args.i c.args.link) ∙ ap (λ z. Dir (insert z c.args.i (pair c.args.link))) (sym same)))
-    c.insert_link.ensures.ok
+    (ap (λ z. Dir (pairs z)) items ∙ ap Dir (pairs-insert c.in-Dir.links c.args.i c.args.link) ∙ ap (λ z. Dir (insert z c.args.i (pair c.args.link))) (sym same)))
+    c.insert.ensures.ok
 
 pub returns-in-Dir-clause-err : goal.returns-in-Dir-clause-err
 returns-in-Dir-clause-err c =
-    IfErr-weaker c.insert_link.result (λ _. c.insert_link.new.links.items ≡ c.in-Dir.links.items) _
+    IfErr-weaker c.insert.result (λ _. c.insert.new.self ≡ c.in-Dir.links) _
     (λ _ items. same_graph c.args.nodes.now c.args.dir _ _ c.index_mut.ensures.value (ap (λ z. Dir (pairs z)) items ∙ sym (ap place c.in-Dir.is)))
-    c.insert_link.ensures.err
+    c.insert.ensures.err
 
 pub returns-in-File-clause-ok : goal.returns-in-File-clause-ok
 returns-in-File-clause-ok c = absurd (dir_not_file c.args.nodes.now c.args.dir _ _ _ c.requires.directory c.index_mut.ensures.value (ap place c.in-File.is))

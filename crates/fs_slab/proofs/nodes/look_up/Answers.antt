@@ -1,4 +1,4 @@
-use Rattle.std.proofs.Common.{◌≡◌, ◌+◌, ◌-◌, ◌∙◌, ap, sym, Some, length, arith}
+use Rattle.std.proofs.Common.{◌≡◌, ◌+◌, ◌-◌, ◌∙◌, ap, sym, Some, length, arith, refl}
 use Rattle.fs_slab.specs.code.Nodes.{graph, pairs}
 use Rattle.fs_slab.specs.code.Slots.{tree_of, walk}
 use Rattle.fs_slab.proofs.NodeLemmas.{has_key, place_got, rising_got, take_parent}
@@ -17,7 +17,7 @@ index-requires c = has_key c.args.nodes.now c.in-Ok.dir (c.requires.forest.insid
 pub search-requires : goal.search-requires
 search-requires c =
     let at = place_got c.args.nodes.now c.in-Ok.dir _ (c.index.ensures ∙ ap Some c.in-Dir.is) in
-    rising_got (graph c.args.nodes.now) c.in-Ok.dir _ (pairs c.deref.result.now) (c.requires.forest.rising c.in-Ok.dir) at (ap pairs (sym c.deref.ensures.value))
+    rising_got (graph c.args.nodes.now) c.in-Ok.dir _ (pairs c.in-Dir.links) (c.requires.forest.rising c.in-Ok.dir) at refl
 
 pub returns-in-File : goal.returns-in-File
 returns-in-File c =
@@ -32,11 +32,11 @@ returns-in-Ok-search c =
     let named = c.requires.named in
     let len : (c.len-last.result - 1) + 1 ≡ length c.args.path.now = omega (arith, c.len-last.ensures.len) in
     let at = place_got c.args.nodes.now c.in-Ok.dir _ (c.index.ensures ∙ ap Some c.in-Dir.is) in
-    is_taken (graph c.args.nodes.now) c.args.path.now _ c.in-Ok.dir c.in-Ok-search.i c.name.result.now c.in-Dir.links.items _ len c.name.ensures c.in-Ok.ensures at (rw c.deref.ensures.value at c.in-Ok-search.ensures) c.index-in-Ok-search.ensures
+    is_taken (graph c.args.nodes.now) c.args.path.now _ c.in-Ok.dir c.in-Ok-search.i c.name.result.now c.in-Dir.links c.in-Ok-search.node len c.name.ensures c.in-Ok.ensures at c.in-Ok-search.ensures.0 c.in-Ok-search.ensures.1
 
 pub returns-in-Err-search : goal.returns-in-Err-search
 returns-in-Err-search c =
     let named = c.requires.named in
     let len : (c.len-last.result - 1) + 1 ≡ length c.args.path.now = omega (arith, c.len-last.ensures.len) in
     let at = place_got c.args.nodes.now c.in-Ok.dir _ (c.index.ensures ∙ ap Some c.in-Dir.is) in
-    is_free (graph c.args.nodes.now) c.args.path.now _ c.in-Ok.dir c.in-Err-search.i c.len.result c.name.result.now c.in-Dir.links.items len c.name.ensures c.in-Ok.ensures at (rw c.deref.ensures.value at c.in-Err-search.ensures) (c.len.ensures ∙ c.in-Dir.links.ok.0)
+    is_free (graph c.args.nodes.now) c.args.path.now _ c.in-Ok.dir c.in-Err-search.i c.len.result c.name.result.now c.in-Dir.links len c.name.ensures c.in-Ok.ensures at c.in-Err-search.ensures c.len.ensures

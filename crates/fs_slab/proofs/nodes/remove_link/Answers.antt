@@ -10,14 +10,14 @@ index_mut-requires c = has_key c.args.nodes.now c.args.dir (ap is_some c.require
 
 pub remove-requires : goal.remove-requires
 remove-requires c =
-    let same = links_read c.args.nodes.now c.args.dir _ c.in-Dir.links.items c.index_mut.ensures.value (ap place c.in-Dir.is) in
-    subst (λ n. c.args.i < n) (ap length same ∙ length-pairs c.in-Dir.links.items ∙ sym c.in-Dir.links.ok.0) c.requires.within
+    let same = links_read c.args.nodes.now c.args.dir _ c.in-Dir.links c.index_mut.ensures.value (ap place c.in-Dir.is) in
+    subst (λ n. c.args.i < n) (ap length same ∙ length-pairs c.in-Dir.links) c.requires.within
 
 pub returns-in-Dir : goal.returns-in-Dir
 returns-in-Dir c =
-    let same = links_read c.args.nodes.now c.args.dir _ c.in-Dir.links.items c.index_mut.ensures.value (ap place c.in-Dir.is) in
+    let same = links_read c.args.nodes.now c.args.dir _ c.in-Dir.links c.index_mut.ensures.value (ap place c.in-Dir.is) in
     sets_value c.args.nodes.now c.args.dir _ _ _ c.index_mut.ensures.value
-    (ap (λ z. Dir (pairs z)) c.remove.ensures.items ∙ ap Dir (pairs-remove c.in-Dir.links.items c.args.i) ∙ ap (λ z. Dir (remove z c.args.i)) (sym same))
+    (ap (λ z. Dir (pairs z)) c.remove.ensures ∙ ap Dir (pairs-remove c.in-Dir.links c.args.i) ∙ ap (λ z. Dir (remove z c.args.i)) (sym same))
 
 pub returns-in-File : goal.returns-in-File
 returns-in-File c = absurd (dir_not_file c.args.nodes.now c.args.dir _ _ _ c.requires.directory c.index_mut.ensures.value (ap place c.in-File.is))
