@@ -280,7 +280,7 @@ class Learned(Case):
 
     def test_page(self) -> None:
         """The example of docs/COMMANDS.md, and what it says that this writes."""
-        command, table = documents.blocks(documents.COMMANDS)[1:]
+        command, table = documents.blocks(documents.COMMANDS)[-2:]
         text = harness.match_in(r"\Aprintf '(.*)' \| atomfs linearize --learn\n\Z", command)[1].replace("\\n", "\n")
         self.same(command, run(text.encode(), "linearize", "--learn"), Outcome(0, table.encode()))
 

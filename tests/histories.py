@@ -559,13 +559,20 @@ class Histories(harness.Case):
     def drawn_front(self, given: bytes, more: tuple[str, ...]) -> None:
         front = run(given, "linearize", "--front", *more)
         is_journal = front.output.startswith(b"atomfs-journal")
+        # What a page says of a history: whether an order explains it, and what standard error says after its first line.
+        _, *replies = front.message.removesuffix(b"\n").split(b"\n")
+        said = [b"history none", *(b"reply " + reply.removeprefix(b"atomfs: ") for reply in replies)]
+        notes = b"".join(b"# %s\n" % note for note in (said if front.status else [b"history lawful"]))
         for option, words in (("--draw", ("draw",)), ("--html", ("draw", "--html"))):
             drawn = run(front.output, *words).output if is_journal else b""
+            if option == "--html":
+                drawn = re.sub(rb"(?=^# (?:lawful|fault))", lambda _: notes, drawn, count=1, flags=re.M)
             told = front.message if is_journal else b"atomfs: " + front.output + front.message
             self.same(given, run(given, "linearize", option, *more), Outcome(front.status, drawn, told))
 
     def test_drawn_front(self) -> None:
-        """`--draw` and `--html` draw what `--front` writes. Of a fault, and of what is not known, nothing is drawn."""
+        """`--draw` and `--html` draw what `--front` writes, and a page says what the return at fault could have replied. Of a fault, and of what is not
+        known, nothing is drawn."""
         harness.asks_of_answers()
         none = text_of((*BEGUN, "return 2 stat dir 1"))
         self.each(
@@ -722,6 +729,25 @@ class Long(harness.Case):
     def test_open_replies(self) -> None:
         few = max(self.seconds(20_000) for _ in range(3))
         self.assertLess(self.seconds(100_000), 10 * few + 0.1)
+
+    def judged_seconds(self, replies: typing.Iterable[str], status: int) -> float:
+        """The processor time that a history of lookups takes, one after another, with these replies."""
+        calls = ((f"begin {number} 0 stat /a", f"return {number} {reply}") for number, reply in enumerate(replies, 1))
+        given = text_of((HEADER, *(line for call in calls for line in call)))
+        before = resource.getrusage(resource.RUSAGE_CHILDREN)
+        self.same("the status", run(given, "linearize").status, status)
+        after = resource.getrusage(resource.RUSAGE_CHILDREN)
+        return after.ru_utime + after.ru_stime - before.ru_utime - before.ru_stime
+
+    def test_open_errors(self) -> None:
+        """Calls that fail with an error that is not recorded: what each was is found without a look back at all of them."""
+        few = max(self.judged_seconds(["failed ?"] * 2_000, 0) for _ in range(3))
+        self.assertLess(self.judged_seconds(["failed ?"] * 20_000, 0), 25 * few + 0.5)
+
+    def test_wrong_reply(self) -> None:
+        """The last reply is wrong, and what could have been replied is found without a look back from each call."""
+        few = max(self.judged_seconds([*["failed ENOENT"] * 4_000, "stat dir 0"], 1) for _ in range(3))
+        self.assertLess(self.judged_seconds([*["failed ENOENT"] * 40_000, "stat dir 0"], 1), 25 * few + 0.5)
 
 
 if __name__ == "__main__":

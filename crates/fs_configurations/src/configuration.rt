@@ -68,7 +68,7 @@ impl Configuration {
     {
         Ok(Configuration {
             at: self.at,
-            tree: self.tree.copy(alloc)?,
+            tree: self.tree.copy()?,
             held: Vec::from_slice(alloc, &self.held)?,
         })
     }

@@ -7,16 +7,18 @@ use Rattle.fs_names.specs.Keys.{Key, key_cmp}
 use Rattle.fs_names.specs.declared.kind.Kind.TheVariants as kinds
 use Rattle.fs_names.specs.declared.limits.Limits.{Limits}
 use Rattle.fs_names.specs.declared.limits.Limits.TheVariants.{V1}
+use Rattle.fs_calls.specs.Starts.{Start}
 use Rattle.fs_calls.specs.Tree.{Tree, Node, File, from_list, inserted, removed, renamed, exchanged}
 use Rattle.fs_calls.specs.Sights.{tree_shapes, bytes_of, is_same}
 use Rattle.fs_calls.specs.Rows.{Edit, Keep, Add, Remove, edit_of, new_bytes, written, resized}
 use Rattle.fs_calls.specs.Forms.{Form, form, new_shape, AtNode, AtEntry, AtPair, Rename, Exchange}
 use Rattle.fs_calls.specs.Forms as forms
-use Rattle.fs_calls.specs.Outcomes.{fault, reply, reply_of, replied, success, after, change, change_of, if_sound, filled, edited, node_of}
+use Rattle.fs_calls.specs.Outcomes.{fault, reply, reply_at, reply_of, replied, success, after, change, change_of, if_sound, filled, edited, node_of}
 use Rattle.fs_calls.specs.declared.call.Call.{Call}
 use Rattle.fs_calls.specs.declared.call.Call.TheVariants as calls
 use Rattle.fs_calls.specs.declared.errno.Errno.{Errno}
 use Rattle.fs_calls.specs.declared.reply.Reply.{Reply}
+use Rattle.fs_calls.specs.declared.reply.Reply.TheVariants as answer
 use Rattle.fs_calls.proofs.LookLemmas.{sorted-inserted, sorted-removed, sorted-from_list}
 use Rattle.fs_rows.specs.Rows.{node_of_kind}
 use Rattle.fs_flat.specs.code.Cells.{without_key, moved_cell, swapped_cell, is_failed}
@@ -157,3 +159,18 @@ sound_rises (Some e) t u h g = h
 pub after_sorted : (limits : Limits) (t new : Tree) (call : Call) → is_sorted key_cmp t ≡ true → new ≡ after limits t call → is_sorted key_cmp new ≡ true
 unfolding after
 after_sorted limits t new call h e = ap (is_sorted key_cmp) e ∙ T_true _ (sound_rises (fault limits t call) t (change limits t call) (true_T _ h) (change_rises t (form limits call) (true_T _ h)))
+
+-- a reply that is no error works
+pub not_failed : (r : Reply) → ((e : Errno) → r ≡ answer.Failed e → ⊥) → is_failed r ≡ false
+not_failed answer.Done h = refl
+not_failed (answer.Failed e) h = absurd (h e refl)
+not_failed (answer.Stat kind size) h = refl
+not_failed (answer.Names names) h = refl
+not_failed (answer.Bytes bytes) h = refl
+not_failed (answer.Wrote count) h = refl
+
+-- so what comes of a call that works rises
+pub change_sorted : (start : Start) (limits : Limits) (t items new : Tree) (call : Call) (r : Reply) → start ≡ record { limits = limits; tree = t } → is_sorted key_cmp t ≡ true → r ≡ reply_at start call → is_failed r ≡ false → items ≡ t → new ≡ change V1 items call
+    → is_sorted key_cmp new ≡ true
+change_sorted start limits t items new call r view h is fine same e =
+    after_sorted limits t new call h (changes limits t new call r (is ∙ ap (λ (s : Start). reply_at s call) view) fine (e ∙ ap (λ z. change V1 z call) same))

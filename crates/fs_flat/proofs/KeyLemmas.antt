@@ -1,9 +1,10 @@
 -- Keys, taken apart.
-use Rattle.std.proofs.Common.{◌≡◌, ℕ, zero, suc, ◌+◌, ◌-◌, ◌<◌, ◌≤◌, true, false, cond, List, [], ◌∷◌, ◌++◌, length, take, drop, get_or, slice_get, Some, None, Option, is_some, refl, sym, ap, ◌∙◌, arith, length-append}
+use Rattle.std.proofs.Common.{◌≡◌, ◌≢◌, ℕ, zero, suc, ◌+◌, ◌-◌, ◌<◌, ◌≤◌, true, false, cond, List, [], ◌∷◌, ◌++◌, length, take, drop, get_or, slice_get, Some, None, Option, is_some, refl, sym, ap, ◌∙◌, arith, length-append}
 use Rattle.std.proofs.lemmas.List.{take_all}
 use Rattle.fs_names.specs.Names.{Name, same_name}
 use Rattle.fs_names.specs.Keys.{Key, after_prefix, parent_of}
 use Rattle.fs_names.proofs.Lemmas.{after_prefix-exact}
+use Rattle.fs_calls.specs.Tree.{name_in, only_name}
 
 -- all names but the last
 pub parent_take : (k : Key) → take (length k - 1) k ≡ parent_of k
@@ -41,6 +42,16 @@ follows_not p k h = go (after_prefix p k) h
     go : (o : Option Key) → is_some o ≡ false → None ≡ o
     go None h = refl
     go (Some r) h = absurd (cc)
+
+-- what has not one name more than a directory is no entry of it
+pub no_entry : (d k : Key) → length k ≢ length d + 1 → ◌≡◌ {A = Option Name} None (name_in d k)
+no_entry d k h = go (after_prefix d k) refl
+  where
+    go : (o : Option Key) → after_prefix d k ≡ o → ◌≡◌ {A = Option Name} None (only_name o)
+    go None e = refl
+    go (Some []) e = refl
+    go (Some (x ∷ [])) e = let l : length k ≡ length d + 1 = ap length (after_prefix-exact d k (x ∷ []) e) ∙ length-append d (x ∷ []) in absurd (h l)
+    go (Some (x ∷ y ∷ r)) e = refl
 
 -- the front of a list with one element more
 pub take_next : {A : Type 0} (xs : List A) (i : ℕ) (x : A) → slice_get xs i ≡ Some x → take (i + 1) xs ≡ take i xs ++ x ∷ []

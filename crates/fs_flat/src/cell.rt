@@ -1,6 +1,7 @@
 //! Entries of a tree, which copies share.
 
 ghost use Rattle.std.specs.Prelude.{◌≡◌, ◌↔◌, true, length, option_copied, IfOk};
+ghost use Rattle.std.specs.Rc.{rc_value};
 ghost use Rattle.fs_calls.specs.Replies.{same_kind};
 ghost use Rattle.fs_rows.specs.Rows.{node_of_kind};
 ghost use Rattle.fs_sparse.specs.Files.{bytes_in};
@@ -16,6 +17,9 @@ use std::rc::Rc;
 /// What is at a key, which may have more names than a path.
 #[derive(Drop)]
 struct Entry {
+    /// A number made of the rest, and how many names the key has: both come first, so that most entries are passed over by one look.
+    mark: u64,
+    depth: usize,
     /// The names from the root down.
     key: Vec<Name>,
     kind: Kind,
@@ -29,15 +33,26 @@ pub(crate) struct Cell {
     entry: Rc<Entry>,
 }
 
+/// The entries of a tree, which copies share.
+#[derive(Drop)]
+pub(crate) struct Shared {
+    pub cells: Vec<Cell>,
+    /// A number made of them.
+    pub mark: u64,
+}
+
 impl Model for Cell {
     ghost use Rattle.std.specs.Rc.{rc_value};
     ghost use Rattle.fs_names.specs.Keys.{Key};
     ghost use Rattle.fs_calls.specs.Tree.{Node};
+    ghost use Rattle.std.specs.Prelude.{◌≡◌, length};
     ghost use Rattle.fs_flat.specs.code.Cells.{entry_of};
 
     ghost Value = { Key × Node };
 
     ghost view = { λ c. entry_of (rc_value c.entry) };
+
+    ghost invariant = { λ c. (rc_value c.entry).depth ≡ length (rc_value c.entry).key.items };
 }
 
 fn same_kinds(kind: Kind, other: Kind) -> bool
@@ -99,8 +114,21 @@ impl Cell {
     ) -> Result<Cell, AllocError>
         ensures { IfOk result (λ cell. cell ≡ (key.items, node_of_kind kind content)) }
     {
-        let made = Rc::new(alloc, Entry { key, kind, content });
-        match made {
+        let mut mark = match kind {
+            Kind::Dir => 1u64,
+            Kind::File => 2u64,
+        };
+        for name in &key {
+            mark = with_bytes(mark, name.bytes());
+        }
+        let entry = Entry {
+            mark: with_content(mark, &content),
+            depth: key.len(),
+            key,
+            kind,
+            content,
+        };
+        match Rc::new(alloc, entry) {
             Ok(entry) => Ok(Cell { entry }),
             Err(_) => Err(AllocError),
         }
@@ -119,6 +147,13 @@ impl Cell {
         ensures { result.now ≡ self.now.0 }
     {
         self.entry.key.as_slice()
+    }
+
+    /// How many names that are.
+    pub fn depth(&self) -> usize
+        ensures { result ≡ length self.now.0 }
+    {
+        self.entry.depth
     }
 
     /// Whether a directory or a file is there.
@@ -148,22 +183,24 @@ impl Cell {
         }
     }
 
-    /// A number made of the entry: mostly another for another entry.
-    pub fn mark(&self) -> u64 {
-        let mut mark = match self.kind() {
-            Kind::Dir => 1u64,
-            Kind::File => 2u64,
-        };
-        for name in self.key() {
-            mark = with_bytes(mark, name.bytes());
-        }
-        with_content(mark, &self.entry.content)
-    }
-
     /// Whether both are one entry.
     pub fn same(&self, other: &Cell) -> bool
         ensures { result ≡ true ↔ self.now ≡ other.now }
     {
         same_entry(&self.entry, &other.entry)
+    }
+}
+
+/// Entries that can be shared.
+pub(crate) fn share(alloc: Global, cells: Vec<Cell>) -> Result<Rc<Shared>, AllocError>
+    ensures { IfOk result (λ made. (rc_value made).cells.items ≡ cells.items) }
+{
+    let mut mark = 0u64;
+    for cell in &cells {
+        mark = mark.wrapping_add(cell.entry.mark);
+    }
+    match Rc::new(alloc, Shared { cells, mark }) {
+        Ok(shared) => Ok(shared),
+        Err(_) => Err(AllocError),
     }
 }

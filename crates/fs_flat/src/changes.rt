@@ -4,7 +4,7 @@ ghost use Rattle.std.specs.Prelude.{◌≡◌, ◌++◌, ◌∷◌, [], IsTrue, 
 ghost use Rattle.std.specs.FinMap.{is_sorted, put};
 ghost use Rattle.fs_names.specs.Keys.{key_cmp};
 ghost use Rattle.fs_names.specs.declared.limits.Limits.TheVariants.{V1};
-ghost use Rattle.fs_calls.specs.Tree.{File, from_list, inserted, removed, renamed, exchanged};
+ghost use Rattle.fs_calls.specs.Tree.{File, Tree, from_list, inserted, removed, renamed, exchanged};
 ghost use Rattle.fs_calls.specs.Forms as forms;
 ghost use Rattle.fs_calls.specs.Rows.{written, resized, new_bytes};
 ghost use Rattle.fs_calls.specs.Sights.{tree_shapes, bytes_of, is_same};
@@ -369,6 +369,18 @@ fn after_removal(alloc: Global, cells: &[Cell], path: &Path) -> Result<Vec<Cell>
 {
     let key = names_of(alloc, path)?;
     Ok(without(alloc, cells, &key)?)
+}
+
+/// Whether a call only looks.
+pub(crate) fn only_looks(call: &Call) -> bool
+    ensures { result ≡ true → (t : Tree) → change V1 t call.now ≡ t }
+{
+    match call {
+        Call::Stat(_) | Call::Readdir(_) | Call::ListAfter(_, _, _) | Call::Read(_, _, _) => true,
+        Call::Mkdir(_) | Call::Mknod(_) | Call::Unlink(_) | Call::Rmdir(_) => false,
+        Call::Rename(_, _) | Call::Exchange(_, _) => false,
+        Call::Write(_, _, _) | Call::Truncate(_, _) => false,
+    }
 }
 
 /// The entries after a call without an error, which no limit of files changes.

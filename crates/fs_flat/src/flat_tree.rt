@@ -1,13 +1,15 @@
 //! The tree.
 
-ghost use Rattle.std.specs.Prelude.{◌≡◌, ◌↔◌, true, length, IfOk, IsTrue};
+ghost use Rattle.std.specs.Prelude.{◌≡◌, ◌↔◌, true, false, length, IfOk, IsTrue};
 ghost use Rattle.std.specs.FinMap.{is_sorted};
 ghost use Rattle.fs_names.specs.Keys.{key_cmp};
+ghost use Rattle.fs_names.specs.declared.limits.Limits.{Limits};
+ghost use Rattle.fs_calls.specs.Tree.{Tree};
 ghost use Rattle.fs_calls.specs.Outcomes.{after, called, reply, reply_at};
 ghost use Rattle.fs_flat.specs.code.Cells.{is_failed};
 
-use crate::cell::Cell;
-use crate::changes::{change, copied};
+use crate::cell::{Cell, Shared, share};
+use crate::changes::{change, only_looks};
 use crate::faults::error;
 use crate::replies::success;
 use crate::searching::rises;
@@ -17,63 +19,38 @@ use fs_seq::SeqTree;
 use fs_sparse::SparseFile;
 use std::alloc::{AllocError, Global};
 use std::marker::Model;
+use std::rc::Rc;
 
 /// A tree of directories and files as a list of its entries, seen as the tree that its calls made and the limits that it keeps.
 #[derive(Drop)]
 pub struct FlatTree {
-    cells: Vec<Cell>,
+    shared: Rc<Shared>,
     limits: Limits,
 }
 
 impl Model for FlatTree {
     ghost use Rattle.std.specs.Prelude.{IsTrue};
+    ghost use Rattle.std.specs.Rc.{rc_value};
     ghost use Rattle.std.specs.FinMap.{is_sorted};
     ghost use Rattle.fs_names.specs.Keys.{key_cmp};
     ghost use Rattle.fs_calls.specs.Starts.{Start};
 
     ghost Value = { Start };
 
-    ghost view = { λ t. record { limits = t.limits; tree = t.cells.items } };
+    ghost view = { λ t. record { limits = t.limits; tree = (rc_value t.shared).cells.items } };
 
-    ghost invariant = { λ t. IsTrue (is_sorted key_cmp t.cells.items) };
+    ghost invariant = { λ t. IsTrue (is_sorted key_cmp (rc_value t.shared).cells.items) };
 }
 
-/// The reply of a call by these limits.
-#[tactic(auto, using(crate::proofs::FaultLemmas::fails, crate::proofs::FaultLemmas::works))]
-fn reply_on(alloc: Global, cells: &[Cell], limits: Limits, call: &Call) -> Result<Reply, AllocError>
-    requires { IsTrue (is_sorted key_cmp cells.now) }
-    ensures { IfOk result (λ r. r ≡ reply limits cells.now call.now) }
+/// Whether a call that gets this reply was found to leave the tree as it is.
+fn stays(call: &Call, answer: &Reply) -> bool
+    ensures works { result ≡ false → is_failed answer.now ≡ false }
+    ensures stays { result ≡ true → (limits : Limits) (t : Tree) → answer.now ≡ reply limits t call.now → after limits t call.now ≡ t }
 {
-    match error(alloc, cells, limits, call)? {
-        Some(errno) => Ok(Reply::Failed(errno)),
-        None => Ok(success(alloc, cells, limits, call)?),
+    match answer {
+        Reply::Failed(_) => true,
+        _ => only_looks(call),
     }
-}
-
-/// Whether a reply is an error.
-fn is_error(answer: &Reply) -> bool
-    ensures { result ≡ is_failed answer.now }
-{
-    matches!(answer, Reply::Failed(_))
-}
-
-/// The entries after a call that gets this reply, by these limits.
-#[tactic(auto, using(crate::proofs::ChangeLemmas::stays, crate::proofs::ChangeLemmas::changes))]
-fn cells_after(
-    alloc: Global,
-    cells: &[Cell],
-    limits: Limits,
-    call: &Call,
-    answer: &Reply,
-) -> Result<Vec<Cell>, AllocError>
-    requires sorted { IsTrue (is_sorted key_cmp cells.now) }
-    requires answer { answer.now ≡ reply limits cells.now call.now }
-    ensures { IfOk result (λ new. new.items ≡ after limits cells.now call.now) }
-{
-    if is_error(answer) {
-        return Ok(copied(alloc, cells)?);
-    }
-    Ok(change(alloc, cells, call)?)
 }
 
 /// The entries of a tree.
@@ -114,17 +91,17 @@ impl FlatTree {
             return Err(AllocError);
         }
         Ok(FlatTree {
-            cells,
+            shared: share(alloc, cells)?,
             limits: tree.limits(),
         })
     }
 
     /// The same tree again, which shares the entries of this one.
-    pub fn copy(&self, alloc: Global) -> Result<FlatTree, AllocError>
+    pub fn copy(&self) -> Result<FlatTree, AllocError>
         ensures { IfOk result (λ tree. tree ≡ self.now) }
     {
         Ok(FlatTree {
-            cells: copied(alloc, &self.cells)?,
+            shared: self.shared.clone()?,
             limits: self.limits,
         })
     }
@@ -140,40 +117,44 @@ impl FlatTree {
     pub fn len(&self) -> usize
         ensures { result ≡ length self.now.tree }
     {
-        self.cells.len()
+        self.shared.cells.len()
     }
 
     /// Whether both are one tree.
     pub fn same(&self, other: &FlatTree) -> bool
         ensures { result ≡ true ↔ self.now ≡ other.now }
     {
-        self.limits == other.limits && are_same(&self.cells, &other.cells)
+        self.limits == other.limits && are_same(&self.shared.cells, &other.shared.cells)
     }
 
     /// A number made of the tree: the same for the same tree, and mostly another for another one.
     pub fn mark(&self) -> u64 {
-        let mut mark = 0u64;
-        for cell in &self.cells {
-            mark = mark.wrapping_add(cell.mark());
-        }
-        mark
+        self.shared.mark
     }
 
     /// The reply of a call on the tree, which stays as it is.
+    #[tactic(auto, using(crate::proofs::FaultLemmas::fails, crate::proofs::FaultLemmas::works))]
     pub fn reply(&self, alloc: Global, call: &Call) -> Result<Reply, AllocError>
         ensures { IfOk result (λ reply. reply ≡ reply_at self.now call.now) }
     {
-        Ok(reply_on(alloc, &self.cells, self.limits, call)?)
+        match error(alloc, &self.shared.cells, self.limits, call)? {
+            Some(errno) => Ok(Reply::Failed(errno)),
+            None => Ok(success(alloc, &self.shared.cells, self.limits, call)?),
+        }
     }
 
     /// The tree that a call leaves that gets this reply. This one stays as it is.
-    #[tactic(auto, using(crate::proofs::ChangeLemmas::after_sorted))]
+    #[tactic(auto, using(crate::proofs::ChangeLemmas::changes, crate::proofs::ChangeLemmas::after_sorted))]
     pub fn after(&self, alloc: Global, call: &Call, answer: &Reply) -> Result<FlatTree, AllocError>
         requires { answer.now ≡ reply_at self.now call.now }
         ensures { IfOk result (λ tree. tree ≡ called self.now call.now) }
     {
+        if stays(call, answer) {
+            return Ok(self.copy()?);
+        }
+        let cells = change(alloc, &self.shared.cells, call)?;
         Ok(FlatTree {
-            cells: cells_after(alloc, &self.cells, self.limits, call, answer)?,
+            shared: share(alloc, cells)?,
             limits: self.limits,
         })
     }

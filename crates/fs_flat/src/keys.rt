@@ -2,7 +2,6 @@
 
 ghost use Rattle.std.specs.Prelude.{◌≡◌, ◌≤◌, ◌++◌, length, is_some, IsTrue, IfOk, OnOk, option_copied};
 ghost use Rattle.fs_names.specs.Keys.{after_prefix, parent_of, same_key};
-ghost use Rattle.fs_calls.specs.Tree.{name_in};
 
 use fs_names::order::compare_keys;
 use fs_names::{Name, Path};
@@ -67,16 +66,6 @@ pub(crate) fn behind<'a>(prefix: &[Name], key: &'a [Name]) -> Option<&'a [Name]>
         Some(&key[prefix.len()..])
     } else {
         None
-    }
-}
-
-/// The name of a key in a directory, where it is an entry of it.
-pub(crate) fn name_in<'a>(dir: &[Name], key: &'a [Name]) -> Option<&'a Name>
-    ensures { option_copied result ≡ name_in dir.now key.now }
-{
-    match behind(dir, key) {
-        Some([name]) => Some(name),
-        _ => None,
     }
 }
 

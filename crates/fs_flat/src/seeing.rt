@@ -5,14 +5,14 @@ ghost use Rattle.std.specs.FinMap.{is_sorted};
 ghost use Rattle.fs_names.specs.Keys.{key_cmp};
 ghost use Rattle.fs_names.specs.Limits.{entry_limit};
 ghost use Rattle.fs_names.specs.Shapes as shapes;
-ghost use Rattle.fs_calls.specs.Tree.{names_in};
+ghost use Rattle.fs_calls.specs.Tree.{name_in, names_in};
 ghost use Rattle.fs_calls.specs.Sights.{tree_shapes, has_any, bytes_of, is_full, resolve, resolve_dir};
 ghost use Rattle.fs_calls.specs.code.Seen.{sight};
 ghost use Rattle.fs_sparse.specs.Files.{bytes_in};
 ghost use Rattle.fs_flat.specs.code.Cells.{GoesOn, ReachesOn, lent_names};
 
 use crate::cell::Cell;
-use crate::keys::name_in;
+use crate::keys::behind;
 use crate::searching::{below, find};
 use fs_calls::rows::step_error;
 use fs_calls::{Errno, Sight, ranges};
@@ -20,12 +20,26 @@ use fs_names::{Kind, LIST_LIMIT, Limits, Name};
 use fs_sparse::SparseFile;
 use std::alloc::{AllocError, Global};
 
+/// The name of an entry in a directory, if it is one of it.
+#[tactic(auto, using(crate::proofs::KeyLemmas::no_entry))]
+fn entry_name<'a>(dir: &[Name], cell: &'a Cell) -> Option<&'a Name>
+    ensures { option_copied result ≡ name_in dir.now cell.now.0 }
+{
+    if cell.depth() != dir.len() + 1 {
+        return None;
+    }
+    match behind(dir, cell.key()) {
+        Some([name]) => Some(name),
+        _ => None,
+    }
+}
+
 /// Whether an entry is one of a directory.
 #[tactic(auto, using(crate::proofs::SeenLemmas::entry_true, crate::proofs::SeenLemmas::entry_false))]
 fn is_entry(dir: &[Name], cell: &Cell) -> bool
     ensures { result ≡ has_any (names_in (cell.now ∷ []) dir.now) }
 {
-    match name_in(dir, cell.key()) {
+    match entry_name(dir, cell) {
         Some(_) => true,
         None => false,
     }
@@ -50,7 +64,7 @@ fn tally(dir: &[Name], cell: &Cell) -> usize
     ensures count { result ≡ length (names_in (cell.now ∷ []) dir.now) }
     ensures most { result ≤ 1 }
 {
-    match name_in(dir, cell.key()) {
+    match entry_name(dir, cell) {
         Some(_) => 1,
         None => 0,
     }
@@ -81,7 +95,7 @@ pub(crate) fn count(cells: &[Cell], dir: &[Name]) -> usize
 fn push_name<'a>(names: &mut Vec<&'a Name>, dir: &[Name], cell: &'a Cell) -> Result<(), AllocError>
     ensures { OnOk result (lent_names names.new.items ≡ lent_names names.old.items ++ names_in (cell.now ∷ []) dir.now) }
 {
-    if let Some(name) = name_in(dir, cell.key()) {
+    if let Some(name) = entry_name(dir, cell) {
         names.push(name)?;
     }
     Ok(())

@@ -8,3 +8,4 @@ mod PossibleLemmas
 mod HeardLemmas
 mod KnownLemmas
 mod LinearizableLemmas
+mod BeginLemmas

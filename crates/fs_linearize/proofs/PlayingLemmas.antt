@@ -3,11 +3,10 @@ use Rattle.std.proofs.Common.{◌≡◌, ℕ, zero, suc, ◌+◌, ◌<◌, ◌�
 use Rattle.std.proofs.lemmas.List.{take_all}
 use Rattle.std.proofs.lemmas.Option.{slice_get-get_or, get_or_from_slice_get}
 use Rattle.fs_names.specs.Failures.{or_else}
-use Rattle.fs_names.proofs.FailureLemmas.{or_else-assoc}
 use Rattle.fs_calls.specs.Starts.{Start}
 use Rattle.fs_calls.specs.Outcomes.{next_start}
 use Rattle.fs_calls.specs.declared.reply.Reply.{Reply}
-use Rattle.fs_timeline.specs.Timeline.{begun_as, call_of, with_call, reply_after, has_committed, due, IsNext, Each, IsWellFormed}
+use Rattle.fs_timeline.specs.Timeline.{call_of, with_call, reply_after, has_committed, due, IsNext, Each, IsWellFormed}
 use Rattle.fs_timeline.specs.declared.entry.Entry.{Entry}
 use Rattle.fs_timeline.specs.declared.entry.Entry.TheVariants.{Begin, Commit, Return}
 use Rattle.fs_timeline.proofs.AppendLemmas.{is_some-call_of}
@@ -21,13 +20,10 @@ use Rattle.fs_linearize.specs.code.Tellings.{IsPlayed, IsOfStep, PlaysStep}
 use Rattle.fs_linearize.specs.declared.telling.Played.{Played}
 use Rattle.fs_configurations.specs.declared.steps.Step.{Step}
 use Rattle.fs_configurations.specs.declared.steps.Step.TheVariants.{Passes, Commits}
+use Rattle.fs_linearize.proofs.BeginLemmas.{call_append}
 use Rattle.fs_linearize.proofs.TellingLemmas.{each_front, plays_other, plays_commit}
 
 -- ---- the call that commits
-
-call_append : (c : ℕ) (xs ys : List Entry) → call_of c (xs ++ ys) ≡ or_else (call_of c xs) (call_of c ys)
-call_append c [] ys = refl
-call_append c (e ∷ xs) ys = ap (or_else (begun_as c e)) (call_append c xs ys) ∙ or_else-assoc (begun_as c e) (call_of c xs) (call_of c ys)
 
 well_here : (start : Start) (h : List Heard) (before later : List Entry) (e : Entry) → Explains start h (before ++ e ∷ later) → IsWellFormed (before ++ e ∷ [])
 well_here start h before later e x = each_front IsNext [] (before ++ e ∷ []) later (subst (Each IsNext []) (sym (append_assoc before (e ∷ []) later)) x.lawful.well_formed)

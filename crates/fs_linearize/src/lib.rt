@@ -16,6 +16,7 @@
 //! what an answer says, and `specs/Possible.antt` what could have been replied.
 #![tactic(auto)]
 
+mod begins;
 mod depth_first;
 mod faults;
 mod first_return;

@@ -1,13 +1,14 @@
 //! The reply of a call on the way of steps.
 
-ghost use Rattle.std.specs.Prelude.{◌≡◌, true, [], List, option_copied, IfOk};
+ghost use Rattle.std.specs.Prelude.{◌≡◌, true, [], List, Some, option_copied, IfOk, IfSome};
 ghost use Rattle.fs_timeline.specs.Timeline.{begun_as, call_of, has_committed, due};
 ghost use Rattle.fs_timeline.specs.declared.entry.Entry.{Entry};
 ghost use Rattle.fs_histories.specs.Heard.{entry_of, entries};
-ghost use Rattle.fs_histories.specs.Histories.{Explains};
+ghost use Rattle.fs_histories.specs.Histories.{IsHistory, Explains};
 ghost use Rattle.fs_configurations.specs.code.Ways.{GoesBy};
 ghost use Rattle.fs_linearize.specs.code.Tellings.{PlaysStep};
 
+use crate::begins::Begins;
 use crate::telling::{Played, chosen, play_call};
 use fs_calls::{Call, Reply};
 use fs_configurations::steps::Step;
@@ -38,21 +39,58 @@ fn call_of(history: &[Heard], number: u64) -> Option<&Call>
     None
 }
 
+/// The call that the entry of a place begins under a number.
+fn call_at(history: &[Heard], place: usize, number: u64) -> Option<&Call>
+    requires { IsHistory history.now }
+    ensures { IfSome result (λ call. call_of number (entries history.now) ≡ Some call.now) }
+{
+    match history.get(place) {
+        Some(entry) => begun_as(entry, number),
+        None => None,
+    }
+}
+
+/// The call of a number in a history: it is looked for where it is said to begin, and then everywhere.
+fn call_in<'a>(history: &'a [Heard], begins: &Begins, number: u64) -> Option<&'a Call>
+    requires { IsHistory history.now }
+    ensures { option_copied result ≡ call_of number (entries history.now) }
+{
+    if let Some(place) = begins.place_of(number) {
+        if let Some(call) = call_at(history, place, number) {
+            return Some(call);
+        }
+    }
+    call_of(history, number)
+}
+
+/// Where the calls of a history begin.
+fn begins_of(alloc: Global, history: &[Heard]) -> Result<Begins, AllocError> {
+    let mut begins = Begins::new(alloc);
+    for (place, entry) in history.iter().enumerate() {
+        if let Heard::Begin(number, _, _) = entry {
+            begins.put(number.get(), place)?;
+        }
+    }
+    Ok(begins)
+}
+
 /// Plays one step more.
 fn play_step(
     alloc: Global,
     played: Played,
     history: &[Heard],
+    begins: &Begins,
     step: &Step,
     number: u64,
 ) -> Result<Played, AllocError>
+    requires { IsHistory history.now }
     ensures { IfOk result (PlaysStep number history.now step.now played) }
 {
     let Step::Commits(other) = *step else {
         return Ok(played);
     };
     let Played { mut tree, due } = played;
-    let reply = play_call(alloc, &mut tree, call_of(history, other))?;
+    let reply = play_call(alloc, &mut tree, call_in(history, begins, other))?;
     let mine = other == number;
     Ok(Played {
         tree,
@@ -68,14 +106,16 @@ pub(crate) fn reply_on(
     steps: &[Step],
     number: u64,
 ) -> Result<Option<Reply>, AllocError>
+    requires { IsHistory history.now }
     ensures { IfOk result (λ r. (es : List Entry) → Explains start.now history.now es → GoesBy history.now steps.now es → has_committed number es ≡ true → r ≡ due start.now number es) }
 {
+    let begins = begins_of(alloc, history)?;
     let mut played = Played {
         tree: start.copy()?,
         due: None,
     };
     for step in steps {
-        played = play_step(alloc, played, history, step, number)?;
+        played = play_step(alloc, played, history, &begins, step, number)?;
     }
     Ok(played.due)
 }

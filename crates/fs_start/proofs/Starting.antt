@@ -8,6 +8,8 @@ use Rattle.fs_nodes.specs.Stores.{graph_of}
 use Rattle.fs_timeline.specs.declared.entry.Entry.{Entry}
 use Rattle.fs_core.specs.CoreValues.{CoreValue, state_of}
 use Rattle.fs_machine.specs.States.{State, Run, Starting, IsStart, fresh}
+use Rattle.fs_laws.proofs.journal.ViewOfTimeline.{linearizes}
+use Rattle.fs_linearizable.proofs.LawfulLemmas.{lawful_is_linearizable}
 use Rattle.fs_numbers.proofs.Again.{begins_again}
 use Rattle.fs_words.specs.declared.fault.ScriptFault.{ScriptFault}
 use Rattle.fs_script.specs.Journals.{start_of}
@@ -24,11 +26,11 @@ use Rattle.fs_sched.specs.declared.running.RunEnd.{RunEnd}
 use Rattle.fs_sched.specs.declared.schedule.Schedule.{Schedule}
 use Rattle.fs_sched.specs.declared.schedule.Schedule.TheVariants.{Given}
 use Rattle.fs_sched.proofs.OneText.{Same, one_from, of_one, one_again}
-use Rattle.fs_sched.proofs.Whole.{ListFacts, kept_fresh, whole_end, always_goes_on, finish_goes_on}
+use Rattle.fs_sched.proofs.Whole.{ListFacts, kept_fresh, last_keeps, whole_end, always_goes_on, finish_goes_on}
 use Rattle.fs_verdict.specs.declared.fault.RunFault.{RunFault}
 use Rattle.fs_verdict.specs.declared.fault.RunFault.TheVariants as run
 use Rattle.fs_start.specs.Laws.{OneRunFrom}
-use Rattle.fs_start.specs.Starts.{IsBefore, RunsAt, AreGiven, IsRunAt, AreOfEachRunAt, AreOfTheRunAt, EachIsReadAgainAt, IsFaultAt}
+use Rattle.fs_start.specs.Starts.{IsBefore, RunsAt, AreGiven, IsRunAt, AreOfEachRunAt, AreOfTheRunAt, IsLinearizableRunAt, EachIsReadAgainAt, IsFaultAt}
 use Rattle.fs_start.specs.code.Mades.{IsCoreAt, IsNoCore}
 use Rattle.fs_start.specs.declared.fault.StartFault.{StartFault}
 use Rattle.fs_start.specs.declared.fault.StartFault.TheVariants.{Run as Runs, Tree}
@@ -143,3 +145,10 @@ pub finish_at : (schedule : Schedule) (tree input : List ℕ) (end : RunEnd) (te
 finish_at schedule tree input end text (script, start, (is, at), told, last, (first, before, runs), (ended, spelled)) fits (other, is_other, has) =
     let y : other ≡ script = script_is script other (sym is_other ∙ is) in
     whole_end schedule script first told last end (kept_before script.lists start first before) runs ended (finish_goes_on schedule script.words (subst (λ (s : Script). list_any is_finish s.words ≡ true) y has)) fits
+
+-- ---- the history of a run is linearizable
+
+pub linearizable_at : (schedule : Schedule) (tree input : List ℕ) (end : RunEnd) (text : List ℕ) → IsRunAt schedule tree input end text → IsLinearizableRunAt schedule tree input text
+linearizable_at schedule tree input end text (script, start, given, told, last, (first, before, runs), (ended, spelled)) =
+    let run : Run last.state = (last_keeps schedule script first told last (kept_before script.lists start first before) runs).run in
+    (script, start, given, told, last, (first, before, runs), spelled, lawful_is_linearizable last.state.start last.state.timeline (linearizes last.state run).lawful)

@@ -4,11 +4,13 @@ use Rattle.fs_names.specs.Limits.{node_limit}
 use Rattle.fs_calls.specs.Starts.{Start}
 use Rattle.fs_nodes.specs.Graphs.{Graph}
 use Rattle.fs_timeline.specs.declared.entry.Entry.{Entry}
+use Rattle.fs_linearizable.specs.Linearizable.{history, IsLinearizable}
 use Rattle.fs_machine.specs.States.{IsStart, fresh}
 use Rattle.fs_script.specs.Journals.{start_of}
 use Rattle.fs_script.specs.Script.{script_of}
 use Rattle.fs_script.specs.declared.script.Script.{Script}
 use Rattle.fs_sched.specs.EachRun.{IsReadAgain}
+use Rattle.fs_sched.specs.RunTexts.{IsRunText}
 use Rattle.fs_sched.specs.Runs.{Stage, before_all, RunsFrom, StopsFrom, AreOfRun}
 use Rattle.fs_sched.specs.declared.running.RunEnd.{RunEnd}
 use Rattle.fs_sched.specs.declared.schedule.Schedule.{Schedule}
@@ -46,6 +48,12 @@ AreOfEachRunAt schedule tree input end text = (script : Script) (start : Start) 
 pub record AreOfTheRunAt (schedule : Schedule) (tree : List ℕ) (input : List ℕ) (end : RunEnd) (text : List ℕ) : Type 0 where
   pub some : IsRunAt schedule tree input end text
   pub each : AreOfEachRunAt schedule tree input end text
+
+-- the text is that of a run of the script that an input has from the tree that a text has, and the history in it is linearizable from the start tree in it
+abbrev pub IsLinearizableRunAt : Schedule → List ℕ → List ℕ → List ℕ → Type 0
+IsLinearizableRunAt schedule tree input text =
+    (script : Script) × (start : Start) × AreGiven tree input script start × (told : List Entry) × (last : Stage) × RunsAt schedule script start told last × IsRunText last.state.start last.state.timeline last.state.graph text
+    × IsLinearizable last.state.start (history last.state.timeline)
 
 -- written as a journal that keeps the limit of texts, what a run from the tree leaves is read again as it is
 abbrev pub EachIsReadAgainAt : Schedule → List ℕ → List ℕ → Type 0

@@ -12,7 +12,7 @@ ghost use Rattle.fs_script.specs.Journals.{start_of};
 ghost use Rattle.fs_sched.specs.Devices.{IsSameText, KeepsDevices, WritesBeginning};
 ghost use Rattle.fs_sched.specs.Runs.{IsWhole, HasFinish};
 ghost use Rattle.fs_start.specs.Faults.{told_lines, lines_before, IsTooLarge};
-ghost use Rattle.fs_start.specs.Starts.{AreOfTheRunAt, EachIsReadAgainAt, HasTreeFault, ReachesStopAt};
+ghost use Rattle.fs_start.specs.Starts.{AreOfTheRunAt, IsLinearizableRunAt, EachIsReadAgainAt, HasTreeFault, ReachesStopAt};
 ghost use Rattle.fs_start.specs.code.Mades.{IsCoreAt, IsNoCore, MakesRunAt};
 
 use crate::fault::{StartFault, tree_fault};
@@ -169,6 +169,9 @@ pub fn run_from<R: Source, W: Sink, Listener: Witness>(
     // What is written is the text of every run of the script that was read from the tree that was given, of which there is one,
     // whatever numbers the nodes of the tree get.
     ensures ran { IfOk result (λ end. (text : List ℕ) × IfSome (R.remaining reader.old) (λ input. AreOfTheRunAt schedule tree.items input end text) × Appends (W.contents writer.old) (W.contents writer.new) text) }
+
+    // The history that is written is linearizable, in the words of Herlihy and Wing.
+    ensures linearizable { IfOk result (λ end. (text : List ℕ) × IfSome (R.remaining reader.old) (λ input. IsLinearizableRunAt schedule tree.items input text) × Appends (W.contents writer.old) (W.contents writer.new) text) }
     ensures end { OnOk result (IsAtEnd (R.remaining reader.new)) }
     ensures input { (f : ScriptFault) → result ≡ Err (StartFault.Run (RunFault.Input f)) → IfSome (R.remaining reader.old) (λ input. script_of input ≡ Err f) }
 

@@ -15,7 +15,7 @@ returns c =
     let d = c.in-Commits.other in
     let old = c.args.played in
     let new : Played = record { tree = c.play_call.new.tree; due = c.chosen.result } in
-    let called = c.call_of.ensures in
+    let called = c.call_in.ensures in
     subst (λ (s : Step). PlaysStep c.args.number c.args.history.now s old new) (sym c.in-Commits.is)
     (plays_commit_of c.args.number d c.args.history.now old new c.in_ok-reply.reply (c.in_ok-reply.ensures.reply ∙ ap (reply_after old.tree []) called) (c.in_ok-reply.ensures.tree ∙ ap (λ o. next_start old.tree (with_call o [])) called)
     c.chosen.ensures.one c.chosen.ensures.other)

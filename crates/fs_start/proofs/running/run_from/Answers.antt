@@ -6,10 +6,10 @@ use Rattle.fs_verdict.proofs.Unmade.{unmade, unwritten}
 use Rattle.fs_sched.specs.Runs.{IsWhole, HasFinish}
 use Rattle.fs_sched.proofs.Reasons.{known}
 use Rattle.fs_sched.proofs.RunLemmas.{known_script, script_short}
-use Rattle.fs_start.specs.Starts.{IsRunAt, AreOfTheRunAt, EachIsReadAgainAt, HasTreeFault, ReachesStopAt, IsFaultAt}
+use Rattle.fs_start.specs.Starts.{IsRunAt, AreOfTheRunAt, IsLinearizableRunAt, EachIsReadAgainAt, HasTreeFault, ReachesStopAt, IsFaultAt}
 use Rattle.fs_start.specs.declared.fault.StartFault.{StartFault}
 use Rattle.fs_start.specs.declared.fault.StartFault.TheVariants.{Run, Tree}
-use Rattle.fs_start.proofs.Starting.{of_each_at, whole_at, finish_at}
+use Rattle.fs_start.proofs.Starting.{of_each_at, linearizable_at, whole_at, finish_at}
 use Rattle.fs_start.proofs.running.run_from.Goals as goal
 
 abbrev gives : RunFault → StartFault → Type 0
@@ -20,6 +20,12 @@ returns-in-Ok-clause-ran g c =
     let told = c.in-Ok.ensures.made in
     let output = subst (λ end. IsRunAt c.args.schedule c.args.tree.items told.0.items end told.1.text.items) (sym told.5) told.4.1.output in
     (told.1.text.items, known (λ input. AreOfTheRunAt c.args.schedule c.args.tree.items input c.in-Ok.end told.1.text.items) _ _ _ refl (script_short _ _ _ refl output.2.0) told.2 (of_each_at _ _ _ _ _ output), told.6)
+
+pub returns-in-Ok-clause-linearizable : goal.returns-in-Ok-clause-linearizable
+returns-in-Ok-clause-linearizable g c =
+    let told = c.in-Ok.ensures.made in
+    let output = told.4.1.output in
+    (told.1.text.items, known (λ input. IsLinearizableRunAt c.args.schedule c.args.tree.items input told.1.text.items) _ _ _ refl (script_short _ _ _ refl output.2.0) told.2 (linearizable_at c.args.schedule c.args.tree.items told.0.items told.1.end told.1.text.items output), told.6)
 
 pub returns-in-Ok-clause-again : goal.returns-in-Ok-clause-again
 returns-in-Ok-clause-again g c =
