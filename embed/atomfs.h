@@ -569,7 +569,8 @@ uint8_t atomfs_explain(const char *word, size_t length, char *out, size_t room, 
 /** @name Trees that threads share
  * @{ */
 
-/** A tree that threads share. This part is C over the proved functions, tested and not proved. Link with -pthread.
+/** A tree that threads share. This part is C over the proved functions, tested and not proved; whom an unlocked node
+ * wakes is proved. Link with -pthread.
  *
  * A shared tree has a lock, and each thread has a session in it with a seat of its own. A call of a session takes the
  * lock for its begin and for each of its steps, and releases it between them. So calls of several sessions overlap, and

@@ -107,7 +107,7 @@ def filled(template: str, **parts: typing.Iterable[str]) -> str:
     return template
 
 
-def of_helps(manual: Manual) -> typing.List[str]:
+def of_helps(manual: Manual) -> list[str]:
     """The commands that take the name of another one."""
     return [entry.term for entry in manual.without_help()]
 
@@ -121,7 +121,7 @@ def candidates(value: Value) -> str:
     return "FILE" if value.is_file else " ".join(value.words)
 
 
-def bash_lines(command: str, help: Help) -> typing.Iterator[typing.Tuple[str, str]]:
+def bash_lines(command: str, help: Help) -> typing.Iterator[tuple[str, str]]:
     """What may come after a command, or after the program where its name is empty."""
     yield f"{command} -", names(help.options())
     for option in help.options():
@@ -161,14 +161,14 @@ def zsh_options(help: Help) -> typing.Iterator[str]:
             yield f"'*{name}{sign}[{zsh_text(option.says)}]{zsh_value(option.value) if option.value else ''}'"
 
 
-def zsh_case(name: str, words: typing.Iterable[str]) -> typing.List[str]:
+def zsh_case(name: str, words: typing.Iterable[str]) -> list[str]:
     """What may come after a command."""
     lines = " \\\n".join(f"                {word}" for word in words)
     return [f"        {name})", "            _arguments -S : \\", lines, "            ;;"]
 
 
 def zsh(manual: Manual) -> str:
-    cases: typing.List[str] = []
+    cases: list[str] = []
     for command in manual.commands:
         places = (f"'{place}{zsh_value(one.value)}'" for place, one in enumerate(command.arguments(), 1))
         cases += zsh_case(command.name, [*zsh_options(command), *places])
@@ -218,7 +218,7 @@ def fish(manual: Manual) -> str:
     return filled(FISH, LINES=lines)
 
 
-def completions(manual: Manual) -> typing.Iterator[typing.Tuple[str, str]]:
+def completions(manual: Manual) -> typing.Iterator[tuple[str, str]]:
     """The places of all completions below share/, with their texts."""
     yield f"bash-completion/completions/{PROGRAM}", bash(manual)
     yield f"zsh/site-functions/_{PROGRAM}", zsh(manual)

@@ -58,7 +58,7 @@ class Function(typing.NamedTuple):
 
     answers: str
     name: str
-    takes: typing.Tuple[Field, ...]
+    takes: tuple[Field, ...]
 
 
 class Header:

@@ -26,7 +26,7 @@ class Block(typing.NamedTuple):
     """A list or a paragraph; a paragraph has no title."""
 
     title: str
-    lines: typing.Tuple[str, ...]
+    lines: tuple[str, ...]
 
 
 class Value(typing.NamedTuple):
@@ -34,13 +34,13 @@ class Value(typing.NamedTuple):
 
     name: str
     is_file: bool
-    words: typing.Tuple[str, ...]
+    words: tuple[str, ...]
 
 
 class Option(typing.NamedTuple):
     """An option by its names, and the value that it takes, if it takes one."""
 
-    names: typing.Tuple[str, ...]
+    names: tuple[str, ...]
     value: typing.Optional[Value]
     says: str
 
@@ -58,16 +58,16 @@ class Help(typing.NamedTuple):
     name: str
     about: str
     usage: str
-    blocks: typing.Tuple[Block, ...]
+    blocks: tuple[Block, ...]
 
-    def entries(self, title: str) -> typing.List[Entry]:
+    def entries(self, title: str) -> list[Entry]:
         """The list under a title."""
         return [entry_of(line) for block in self.blocks if block.title == title for line in block.lines]
 
-    def options(self) -> typing.List[Option]:
+    def options(self) -> list[Option]:
         return [option_of(entry) for entry in self.entries("Options")]
 
-    def arguments(self) -> typing.List[Argument]:
+    def arguments(self) -> list[Argument]:
         """The arguments; a later one of the same name takes the words of the first, beside which they are listed."""
         made = [argument_of(entry) for entry in self.entries("Arguments")]
         firsts = {one.value.name: one.value for one in reversed(made)}
@@ -78,13 +78,13 @@ class Manual(typing.NamedTuple):
     """All helps: that of the program, and those of its commands in the order of its list."""
 
     program: Help
-    commands: typing.Tuple[Help, ...]
+    commands: tuple[Help, ...]
 
-    def listed(self) -> typing.List[Entry]:
+    def listed(self) -> list[Entry]:
         """The commands and what they do; one of them, `help`, has no help of its own and takes the name of another."""
         return self.program.entries("Commands")
 
-    def without_help(self) -> typing.List[Entry]:
+    def without_help(self) -> list[Entry]:
         named = {command.name for command in self.commands}
         return [entry for entry in self.listed() if entry.term not in named]
 

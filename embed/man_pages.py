@@ -60,21 +60,21 @@ def reference(command: str) -> str:
     return rf"{bold(page_name(command))}(1)"
 
 
-def item(term: str, says: str) -> typing.List[str]:
+def item(term: str, says: str) -> list[str]:
     return [".TP", term, sentence(says)]
 
 
-def paragraph(text: str) -> typing.List[str]:
+def paragraph(text: str) -> list[str]:
     """A line of a paragraph as a paragraph of its own, or as a term of a list."""
     entry = entry_of(text) if text.startswith("  ") else None
     return item(words(entry.term), entry.says) if entry else [".PP", sentence(text)]
 
 
-def examples(lines: typing.Iterable[str]) -> typing.List[str]:
+def examples(lines: typing.Iterable[str]) -> list[str]:
     return [".EX", *(line(escaped(one.strip())) for one in lines), ".EE"]
 
 
-def section(block: Block, paged: typing.Collection[str]) -> typing.List[str]:
+def section(block: Block, paged: typing.Collection[str]) -> list[str]:
     """A list under its title; commands that have a page by the names of their pages."""
     if block.title.startswith("Example"):
         return [".SH EXAMPLES", *examples(block.lines)]
@@ -84,21 +84,21 @@ def section(block: Block, paged: typing.Collection[str]) -> typing.List[str]:
     return [f".SH {block.title.upper()}", *itertools.chain.from_iterable(items)]
 
 
-def notes(blocks: typing.Iterable[Block]) -> typing.List[str]:
+def notes(blocks: typing.Iterable[Block]) -> list[str]:
     """The paragraphs that follow one another."""
     _, *lines = itertools.chain.from_iterable(paragraph(one) for block in blocks for one in block.lines)
     return [".SH NOTES", *lines]
 
 
-def body(help: Help, paged: typing.Collection[str]) -> typing.List[str]:
+def body(help: Help, paged: typing.Collection[str]) -> list[str]:
     """The blocks of a help in their order."""
-    lines: typing.List[str] = []
+    lines: list[str] = []
     for title, blocks in itertools.groupby(help.blocks, lambda block: block.title):
         lines += itertools.chain.from_iterable(section(one, paged) for one in blocks) if title else notes(blocks)
     return lines
 
 
-def named_in(help: Help, paged: typing.Collection[str]) -> typing.List[str]:
+def named_in(help: Help, paged: typing.Collection[str]) -> list[str]:
     """The program, and the commands that a help names, without its own."""
     text = "\n".join(one for block in help.blocks for one in block.lines)
     named = {PROGRAM, *re.findall(rf"`{PROGRAM} (?:help )?(\w+)", text)} & {PROGRAM, *paged}
@@ -121,7 +121,7 @@ def page(help: Help, paged: typing.Collection[str], version: str, date: str) -> 
     return "\n".join([*lines, ""])
 
 
-def pages(manual: Manual, version: str, date: str) -> typing.Iterator[typing.Tuple[str, str]]:
+def pages(manual: Manual, version: str, date: str) -> typing.Iterator[tuple[str, str]]:
     """The names of all pages with their texts."""
     paged = [command.name for command in manual.commands]
     for help in (manual.program, *manual.commands):

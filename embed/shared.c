@@ -1,12 +1,13 @@
 /* A tree that threads share: a lock round a handle of the proved functions, and sessions that take it for a begin and for each
  * step. Nothing here is proved; tests/shared.c tests it.
  *
- * A call sleeps only for a node that another call holds. The step by which that one lets the node go wakes one of those that
- * sleep for it, since only one can take it. The sleep begins under the lock under which the node was found taken, so no such
- * step is missed. Of the calls under way one always goes on, as is proved of atomfs_step_any, and it sleeps for none: so each
- * call comes to its return. A call whose thread slept as long as it may sleeps on without it, and whoever wakes it makes its
- * steps: so it keeps nobody off. */
+ * A call sleeps only for a node that another call holds. In which queue it sleeps, and whom of a queue a node wakes that is let go,
+ * is proved, and not decided here (asleep.h): one of those that sleep for the node is among them, and no other call unless two
+ * nodes share the queue. The sleep begins under the lock under which the node was found taken, so no such step is missed. Of the
+ * calls under way one always goes on, as is proved of atomfs_step_any, and it sleeps for none: so each call comes to its return. A
+ * call whose thread slept as long as it may sleeps on without it, and whoever wakes it makes its steps: so it keeps nobody off. */
 #define _POSIX_C_SOURCE 200809L
+#include "asleep.h"
 #include "checks.h"
 #include <errno.h>
 #include <inttypes.h>
@@ -24,8 +25,6 @@ enum {
     SOME_NAMES = 2048,
     /* A call holds fewer nodes at once. */
     MOST_HELD = 16,
-    /* Calls and sleepers are found by the rests of their numbers by this one. */
-    QUEUES = 64,
     /* A line of atomfs_shared_holders has no more bytes. */
     MOST_LINE = 64 + MOST_HELD * 21
 };
@@ -37,18 +36,17 @@ struct place {
     uint64_t seat;
     uint64_t call;            /* the number of its last call */
     uint64_t holder;          /* the number of the call for which it sleeps, or slept as long as it may; else 0 */
-    uint64_t wants;           /* the node for which it sleeps, where that is known */
+    uint64_t queue;           /* in which it sleeps */
     uint64_t held[MOST_HELD]; /* the nodes that its call holds, in the order in which it took them */
     size_t holds;
-    uint64_t drawn;          /* what its next pause is drawn from */
-    struct place *next_busy; /* in a list of those with calls under way, and what leads to it there */
-    struct place **busy_from;
-    int cancel; /* whether its thread could be cancelled before its call */
+    uint64_t drawn;            /* what its next pause is drawn from */
+    struct place *next_busy;   /* in the list of those with calls under way */
+    struct place *before_busy; /* there too */
+    int cancel;                /* whether its thread could be cancelled before its call */
     int is_busy;
     int is_asleep;
     int is_left;   /* by its thread, which waits no more: whoever wakes it makes its steps */
     int has_ended; /* its session, in the midst of that */
-    int knows;     /* what it wants */
     pthread_cond_t woken;
 };
 
@@ -72,10 +70,11 @@ struct atomfs_shared {
     atomfs fs;
     atomfs_session *sessions;
     struct place *free_places;
-    struct place *left;          /* by their threads, and woken: whoever has the lock makes their steps */
-    struct queue sure[QUEUES];   /* those that sleep for a node, by its number */
-    struct queue unsure[QUEUES]; /* those that sleep for a call, whichever node they want, by its number */
-    struct place *busy[QUEUES];  /* those with calls under way, by their numbers */
+    struct place *left;                 /* by their threads, and woken: whoever has the lock makes their steps */
+    struct queue queues[ATOMFS_QUEUES]; /* of those that sleep */
+    struct atomfs_asleep asleep;        /* what is noted of them */
+    struct place *first_busy;           /* of those with calls under way, in the order of their begins */
+    struct place *last_busy;
     uint64_t under_way;
     uint64_t asked; /* how often the handle was asked for, and how often it was given back, or no longer asked for */
     uint64_t given_back;
@@ -478,31 +477,32 @@ uint8_t atomfs_shared_unlock(atomfs_shared *shared) {
 
 /* ---- Calls */
 
-/* The place with the call of a number that is under way; null, where no session has it. */
-static struct place *place_of_call(const atomfs_shared *shared, uint64_t call) {
-    struct place *place = shared->busy[call % QUEUES];
-    while (place != NULL && place->call != call) place = place->next_busy;
-    return place;
-}
-
 static void becomes_busy(atomfs_shared *shared, struct place *place, uint64_t call) {
-    struct place **from = &shared->busy[call % QUEUES];
     place->call = call;
     place->holds = 0;
     place->holder = 0;
     place->is_busy = 1;
     place->is_left = 0;
-    place->busy_from = from;
-    place->next_busy = *from;
-    if (*from != NULL) (*from)->busy_from = &place->next_busy;
-    *from = place;
+    place->next_busy = NULL;
+    place->before_busy = shared->last_busy;
+    if (shared->last_busy != NULL)
+        shared->last_busy->next_busy = place;
+    else
+        shared->first_busy = place;
+    shared->last_busy = place;
     shared->under_way++;
 }
 
 static void becomes_idle(atomfs_shared *shared, struct place *place) {
     place->is_busy = 0;
-    *place->busy_from = place->next_busy;
-    if (place->next_busy != NULL) place->next_busy->busy_from = place->busy_from;
+    if (place->before_busy != NULL)
+        place->before_busy->next_busy = place->next_busy;
+    else
+        shared->first_busy = place->next_busy;
+    if (place->next_busy != NULL)
+        place->next_busy->before_busy = place->before_busy;
+    else
+        shared->last_busy = place->before_busy;
     shared->under_way--;
     if (place->has_ended) becomes_free(shared, place);
     tell_at_rest(shared);
@@ -510,12 +510,12 @@ static void becomes_idle(atomfs_shared *shared, struct place *place) {
 
 /* ---- Sleep, and who is woken */
 
-static struct queue *bed_of(atomfs_shared *shared, const struct place *place) {
-    return place->knows ? &shared->sure[place->wants % QUEUES] : &shared->unsure[place->holder % QUEUES];
-}
-
-static void lies_down(struct queue *queue, struct place *place) {
+/* Lies down in a queue, until the call of a number lets a node go. */
+static void lies_down(atomfs_shared *shared, struct place *place, uint64_t number, uint64_t holder) {
+    struct queue *queue = &shared->queues[number];
     place->is_asleep = 1;
+    place->holder = holder;
+    place->queue = number;
     place->next_asleep = NULL;
     if (queue->last != NULL)
         queue->last->next_asleep = place;
@@ -524,8 +524,11 @@ static void lies_down(struct queue *queue, struct place *place) {
     queue->last = place;
 }
 
-/* Takes the place behind another, or the first, out of a queue. */
-static void gets_up(struct queue *queue, struct place *before, struct place *place) {
+/* Takes a place out of the queue in which it sleeps. */
+static void gets_up(atomfs_shared *shared, struct place *place) {
+    struct queue *queue = &shared->queues[place->queue];
+    struct place *before = NULL;
+    for (struct place *at = queue->first; at != place; at = at->next_asleep) before = at;
     if (before != NULL)
         before->next_asleep = place->next_asleep;
     else
@@ -534,28 +537,9 @@ static void gets_up(struct queue *queue, struct place *before, struct place *pla
     place->is_asleep = 0;
 }
 
-/* Takes a place out of the queue in which it sleeps. */
-static void leave_bed(atomfs_shared *shared, struct place *place) {
-    struct queue *queue = bed_of(shared, place);
-    struct place *before = NULL;
-    for (struct place *at = queue->first; at != place; at = at->next_asleep) before = at;
-    gets_up(queue, before, place);
-}
-
-/* Lies down until the call of a number lets a node go that this one may take. Which node it wants is known, where the other
- * holds one alone. */
-static void lies_down_for(atomfs_shared *shared, struct place *place, uint64_t holder) {
-    const struct place *other = place_of_call(shared, holder);
-    place->holder = holder;
-    place->knows = other != NULL && other->holds == 1;
-    if (place->knows) place->wants = other->held[0];
-    lies_down(bed_of(shared, place), place);
-}
-
 /* Sleeps until it is woken. Whether that is not given up: then the call sleeps on, and others make its steps. */
-static int slept_for(atomfs_shared *shared, struct place *place, uint64_t holder) {
+static int slept(atomfs_shared *shared, struct place *place) {
     struct timespec until = deadline(shared);
-    lies_down_for(shared, place, holder);
     while (place->is_asleep)
         if (!slept_until(shared, &place->woken, &until) && place->is_asleep) {
             place->is_left = 1;
@@ -565,7 +549,7 @@ static int slept_for(atomfs_shared *shared, struct place *place, uint64_t holder
 }
 
 /* One that is up again: its thread goes on, or, if that has left it, whoever has the lock. */
-static void wakes(atomfs_shared *shared, struct place *place) {
+static void is_woken(atomfs_shared *shared, struct place *place) {
     if (!place->is_left)
         pthread_cond_signal(&place->woken);
     else if (place->is_busy) {
@@ -574,70 +558,56 @@ static void wakes(atomfs_shared *shared, struct place *place) {
     }
 }
 
-/* Wakes the first that sleeps for a node, which is free, since one alone can take it. */
-static void wake_first(atomfs_shared *shared, uint64_t node) {
-    struct queue *queue = &shared->sure[node % QUEUES];
-    struct place *before = NULL, *place = queue->first;
-    while (place != NULL && place->wants != node) {
-        before = place;
-        place = place->next_asleep;
-    }
-    if (place == NULL) return;
-    gets_up(queue, before, place);
-    wakes(shared, place);
-}
-
-/* Wakes those that sleep for a call which has let a node go, and may want that one. */
-static void wake_unsure(atomfs_shared *shared, uint64_t holder) {
-    struct queue *queue = &shared->unsure[holder % QUEUES];
-    struct place *before = NULL, *place = queue->first;
-    while (place != NULL) {
-        struct place *next = place->next_asleep;
-        if (place->holder == holder) {
-            gets_up(queue, before, place);
-            wakes(shared, place);
-        } else {
-            before = place;
-        }
-        place = next;
+/* Wakes those of a queue who are to be woken: nobody, the first, or all. */
+static void wake(atomfs_shared *shared, uint64_t number, uint8_t whom) {
+    struct queue *queue = &shared->queues[number];
+    while (whom != ATOMFS_WAKE_NOBODY && queue->first != NULL) {
+        struct place *place = queue->first;
+        gets_up(shared, place);
+        is_woken(shared, place);
+        if (whom == ATOMFS_WAKE_ONE) return;
     }
 }
 
 /* A node is held by the call on a place no more. */
-static void lets_go(atomfs_shared *shared, struct place *place, uint64_t node) {
+static void lets_go(struct place *place, uint64_t node) {
     size_t left = 0;
     for (size_t i = 0; i < place->holds; i++)
         if (place->held[i] != node) place->held[left++] = place->held[i];
     place->holds = left;
-    wake_unsure(shared, place->call);
-    wake_first(shared, node);
 }
 
-/* Notes what a step of the call on a place did, which did not wait, and wakes those who can go on by it. */
+/* Notes what a step of the call on a place did, which did not wait. */
 static void note(atomfs_shared *shared, struct place *place, uint8_t did, uint64_t about) {
     place->holder = 0;
     if (did == ATOMFS_DID_TAKE && place->holds < MOST_HELD) place->held[place->holds++] = about;
-    if (did == ATOMFS_DID_LET_GO) lets_go(shared, place, about);
-    if (did != ATOMFS_DID_RETURN) return;
-    while (place->holds > 0) lets_go(shared, place, place->held[0]);
-    becomes_idle(shared, place);
+    if (did == ATOMFS_DID_LET_GO) lets_go(place, about);
+    if (did == ATOMFS_DID_RETURN) becomes_idle(shared, place);
+}
+
+/* Makes a step of the call on a place. A call that waits lies down; another wakes those who can go on by what it did. Whether the
+ * tree has the seat. */
+static int went_on(atomfs_shared *shared, struct place *place, struct atomfs_went *went) {
+    if (refused(PROVED(step_among)(&shared->fs, place->seat, &shared->asleep, went))) return 0;
+    if (went->did == ATOMFS_DID_WAIT)
+        lies_down(shared, place, went->queue, went->about);
+    else {
+        note(shared, place, went->did, went->about);
+        wake(shared, went->queue, went->whom);
+    }
+    return 1;
 }
 
 /* Makes the steps of those that are left and were woken: up to their returns, or until they sleep again. They end, since each
  * call makes so many steps at most. */
 static void go_on_with_left(atomfs_shared *shared) {
     struct place *place;
-    uint64_t about;
-    uint8_t did;
+    struct atomfs_went went;
     while ((place = shared->left) != NULL) {
         shared->left = place->next_asleep;
         do {
-            if (refused(atomfs_step(&shared->fs, place->seat, &did, &about))) return;
-            if (did == ATOMFS_DID_WAIT)
-                lies_down_for(shared, place, about);
-            else
-                note(shared, place, did, about);
-        } while (did != ATOMFS_DID_WAIT && did != ATOMFS_DID_RETURN);
+            if (!went_on(shared, place, &went)) return;
+        } while (went.did != ATOMFS_DID_WAIT && went.did != ATOMFS_DID_RETURN);
     }
 }
 
@@ -668,19 +638,17 @@ static uint8_t begun(atomfs_session *session, const atomfs_request *request, uin
 /* Makes the steps of a call up to its return, which steps of others may come to as well. OK; WAITS, where it slept as long as
  * it may. */
 static uint8_t stepped(atomfs_shared *shared, struct place *place, uint64_t number) {
-    uint8_t did = ATOMFS_DID_BEGIN;
-    uint64_t about = number;
+    struct atomfs_went went = { .did = ATOMFS_DID_BEGIN, .about = number };
     for (;;) {
-        if (did != ATOMFS_DID_WAIT)
-            pass_gate(shared, place, did, about);
-        else if (!slept_for(shared, place, about))
+        if (went.did != ATOMFS_DID_WAIT)
+            pass_gate(shared, place, went.did, went.about);
+        else if (!slept(shared, place))
             return ATOMFS_WAITS;
         if (!place->is_busy || place->call != number) return ATOMFS_OK;
-        if (refused(atomfs_step(&shared->fs, place->seat, &did, &about))) return ATOMFS_OK;
-        if (did == ATOMFS_DID_WAIT) continue;
-        note(shared, place, did, about);
+        if (!went_on(shared, place, &went)) return ATOMFS_OK;
+        if (went.did == ATOMFS_DID_WAIT) continue;
         go_on_with_left(shared);
-        if (did == ATOMFS_DID_RETURN) return ATOMFS_OK;
+        if (went.did == ATOMFS_DID_RETURN) return ATOMFS_OK;
     }
 }
 
@@ -712,14 +680,13 @@ static uint8_t told(atomfs_session *session, uint8_t status) {
 
 /* The place of a seat with a call under way. */
 static struct place *place_of_seat(const atomfs_shared *shared, uint64_t seat) {
-    for (size_t i = 0; i < QUEUES; i++)
-        for (struct place *place = shared->busy[i]; place != NULL; place = place->next_busy)
-            if (place->seat == seat) return place;
-    return NULL;
+    struct place *place = shared->first_busy;
+    while (place != NULL && place->seat != seat) place = place->next_busy;
+    return place;
 }
 
 uint8_t atomfs_shared_finish(atomfs_shared *shared, uint64_t *count) {
-    uint64_t seat, about;
+    uint64_t seat, about, queue;
     uint8_t did, status;
     if (shared == NULL) return ATOMFS_CLOSED;
     if (refused(status = there(count))) return status;
@@ -730,10 +697,14 @@ uint8_t atomfs_shared_finish(atomfs_shared *shared, uint64_t *count) {
         struct place *place = place_of_seat(shared, seat);
         if (place == NULL) continue;
         /* It may have slept for a node that is free, since one at a time is woken for that. */
-        int slept = place->is_asleep;
-        if (slept) leave_bed(shared, place);
+        int was_asleep = place->is_asleep;
+        if (was_asleep) gets_up(shared, place);
         note(shared, place, did, about);
-        if (slept) wakes(shared, place);
+        if (did == ATOMFS_DID_LET_GO) {
+            uint8_t whom = PROVED(wakes)(&shared->asleep, about, &queue);
+            wake(shared, queue, whom);
+        }
+        if (was_asleep) is_woken(shared, place);
         go_on_with_left(shared);
     }
     let_go(shared, cancel);
@@ -764,11 +735,10 @@ static size_t all_holders(const atomfs_shared *shared, char *out, size_t room) {
     char line[MOST_LINE];
     size_t told_ = 0;
     if (shared->is_lent) add_line(lent, sizeof lent - 1, out, room, &told_);
-    for (size_t i = 0; i < QUEUES; i++)
-        for (const struct place *place = shared->busy[i]; place != NULL; place = place->next_busy) {
-            size_t length = line_of(place, line);
-            add_line(line, length, out, room, &told_);
-        }
+    for (const struct place *place = shared->first_busy; place != NULL; place = place->next_busy) {
+        size_t length = line_of(place, line);
+        add_line(line, length, out, room, &told_);
+    }
     return told_;
 }
 

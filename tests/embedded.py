@@ -1,19 +1,17 @@
 """The library for C as it is built: its typed calls, and calls that break its rules as far as it answers them (typed.c), a tree that threads share
-(shared.c), that some call always goes on, that forgetting costs the same in a large tree (bench/growth.c), what long jobs are answered
-(bench/trees.c), why bytes are no path, its tools over texts, what it finds of histories, its header, what it exports and what is packed; the
-programs of examples/embed in C, Rust and Python, and the examples of docs/EMBEDDING.md and of the packages' pages.
+(shared.c), that some call always goes on, what long jobs are answered (bench/trees.c), why bytes are no path, its tools over texts, what it finds of
+histories, its header, what it exports and what is packed; the programs of examples/embed in C, Rust and Python, and the examples of docs/EMBEDDING.md
+and of the packages' pages.
 
 With LIBATOMFS the programs of this folder take another library: its shared object, beside which the archive stands.
 """
 import contextlib
-import importlib
 import itertools
 import pathlib
 import random
 import re
 import shutil
 import subprocess
-import sys
 import tarfile
 import tempfile
 import typing
@@ -26,9 +24,6 @@ import grammar
 import harness
 import histories
 from worked import KINDS
-
-sys.path.insert(0, str(harness.ROOT / "bench"))
-counting: typing.Any = importlib.import_module("counting")
 
 HEADER = harness.ROOT / "embed" / "atomfs.h"
 TESTS = harness.ROOT / "tests"
@@ -166,6 +161,8 @@ class Shared(Programs):
     end in the midst of calls; and its journal is lawful."""
 
     SOURCE, WELL, SECONDS = "shared.c", "a shared tree: as it is to be", 600
+    # The proved functions that embed/asleep.h declares.
+    CALLED = "step_among", "wakes"
     # valgrind runs one thread at a time: a thread that never sleeps would keep the others from their turn for minutes.
     IN_TURN = "--fair-sched=yes"
 
@@ -184,9 +181,10 @@ class Shared(Programs):
         )
 
     def counted(self, name: str, *flags: str) -> str:
-        """With embed/shared.c compiled into the program: of the library the same functions give way to those."""
+        """With embed/shared.c compiled into the program: of the library the same functions give way to those, and what they call leaves it."""
         weak = f"{self.folder}/weak.a"
-        subprocess.run(("objcopy", "--weaken", self.archive, weak), check=True)
+        words = *("objcopy", "--weaken"), *(f"--globalize-symbol=proved_atomfs_{name}" for name in self.CALLED)
+        subprocess.run((*words, self.archive, weak), check=True)
         return self.made(name, LANGUAGES[1][1], "-DCOUNTED", *flags, archive=weak)
 
     def sanitized(self, sanitizer: str) -> None:
@@ -208,27 +206,6 @@ class Shared(Programs):
         ):
             with self.subTest(name):
                 self.well(f"shared.c under {name}", *words, self.IN_TURN, program, calls)
-
-
-class Growth(Programs):
-    """bench/growth.c: what a call costs in a tree that forgets does not grow with the tree."""
-
-    SOURCE, KEPT, ROUNDS, SMALL, LARGE, MOST = "../bench/growth.c", 200, 200, 1_000, 8_000, 1.5
-
-    def cost(self, program: str, nodes: int) -> float:
-        """The instructions of a round of calls, and of forgetting as many calls as it has."""
-        none, some = (
-            counting.counted(program, [str(nodes), str(self.KEPT), str(rounds)], b"").instructions
-            for rounds in (0, self.ROUNDS)
-        )
-        each: float = (some - none) / self.ROUNDS
-        return each
-
-    @unittest.skipIf(shutil.which("valgrind") is None, "valgrind is not on the path")
-    def test_forgetting(self) -> None:
-        program = self.made("growth", LANGUAGES[0][1], "-O2")
-        small, large = (self.cost(program, nodes) for nodes in (self.SMALL, self.LARGE))
-        self.assertLess(large, self.MOST * small)
 
 
 class Trees(Programs):

@@ -6,6 +6,9 @@
  * lock of its own, so that a sanitizer of threads sees a step outside of the tree's. */
 #define _POSIX_C_SOURCE 200809L
 #include "is.h"
+#ifdef COUNTED
+#include "../embed/asleep.h"
+#endif
 #include <pthread.h>
 #include <sched.h>
 #include <semaphore.h>
@@ -29,10 +32,10 @@ static sem_t gate, stopped, waited;
 /* How often this thread takes the lock before it stops, below 0 it never does; and how often it has taken it. */
 static _Thread_local int before_stop = -1, takes;
 
-static uint8_t counted_step(atomfs *fs, uint64_t on, uint8_t *did, uint64_t *about) {
-    uint8_t status = atomfs_step(fs, on, did, about);
-    helps += *did == ATOMFS_DID_HELP;
-    if (*did == ATOMFS_DID_WAIT) {
+static uint8_t counted_step(atomfs *fs, uint64_t on, struct atomfs_asleep *asleep, struct atomfs_went *went) {
+    uint8_t status = proved_atomfs_step_among(fs, on, asleep, went);
+    helps += went->did == ATOMFS_DID_HELP;
+    if (went->did == ATOMFS_DID_WAIT) {
         waits++;
         sem_post(&waited);
     }
@@ -49,10 +52,10 @@ static int passing_lock(pthread_mutex_t *lock) {
     return pthread_mutex_lock(lock);
 }
 
-#define atomfs_step counted_step
+#define proved_atomfs_step_among counted_step
 #define pthread_mutex_lock passing_lock
 #include "../embed/shared.c"
-#undef atomfs_step
+#undef proved_atomfs_step_among
 #undef pthread_mutex_lock
 #endif
 

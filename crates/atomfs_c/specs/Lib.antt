@@ -1,3 +1,4 @@
 pub mod Handles
 pub mod Exports
 pub mod Tools
+pub mod Sleepers

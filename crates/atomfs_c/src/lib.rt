@@ -6,9 +6,9 @@
 //! its commits if no call is pending (`spelled`). All exports but those that open refuse a closed handle, and the clauses of each say
 //! which statuses it returns.
 //!
-//! Enter at `handles`, `starting`, `calls`, `texts`, `runs` and `tools`, which have the exports; `embed/atomfs.h` declares them for C. In
-//! `specs/`, `Handles` says what a handle owns, and `Exports` and `Tools` have what the clauses say. `Told` and `Statuses` of `fs_embed`
-//! say which number reports what. `docs/EMBEDDING.md` has what a C caller must keep to.
+//! Enter at `handles`, `starting`, `calls`, `texts`, `runs` and `tools`, which have the exports; `embed/atomfs.h` declares them for C. Those
+//! of `sleepers` are for `embed/shared.c` alone (`embed/asleep.h`). In `specs/`, `Handles` says what a handle owns, and `Exports`, `Tools`
+//! and `Sleepers` have what the clauses say. `Told` and `Statuses` of `fs_embed` say which number reports what. `docs/EMBEDDING.md` has what a C caller must keep to.
 #![tactic(auto)]
 
 mod calls;
@@ -19,6 +19,7 @@ mod held;
 mod parts;
 mod replies;
 mod runs;
+mod sleepers;
 mod starting;
 mod texts;
 mod tools;

@@ -23,3 +23,4 @@ pub mod Added
 pub mod RowsFit
 pub mod Started
 pub mod Within
+pub mod ToReturns

@@ -3,3 +3,4 @@ pub mod Checkpoints
 pub mod Events
 pub mod code
 pub mod Told
+pub mod Calls

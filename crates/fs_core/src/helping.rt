@@ -148,12 +148,6 @@ fn way_of(
     }
 }
 
-fn put(place: &mut Way, way: Way)
-    ensures { place.new ≡ way }
-{
-    *place = way;
-}
-
 /// Finds the way of each listed seat.
 fn find_ways(
     store: &Store,
@@ -170,10 +164,7 @@ fn find_ways(
 {
     for i in 0..listed.len() {
         let seat = listed[i];
-        put(
-            &mut ways[seat],
-            way_of(store, holders, seats, listed, moved, seat),
-        );
+        ways[seat] = way_of(store, holders, seats, listed, moved, seat);
     }
 }
 

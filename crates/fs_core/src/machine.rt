@@ -119,7 +119,8 @@ impl Core {
         match self.holders.take(node, call) {
             Err(_) => Done::Busy(node),
             Ok(()) => {
-                seat::set_out(&mut self.starting[seat]);
+                // It has set out from the root, or had before.
+                self.starting[seat] = None;
                 seat::take(&mut self.seats[seat], node);
                 Done::Took(node)
             }
@@ -333,17 +334,6 @@ impl Core {
         Ok(Core::at(alloc, start, store, holders))
     }
 
-    /// The same by the limits of the second version.
-    pub fn with_limit(alloc: Global, limit: usize) -> Result<Core, AllocError>
-        requires least { 1 ≤ limit }
-        requires most { limit ≤ node_limit Limits.V2 }
-        ensures state { IfOk result (λ core. state_of core ≡ empty Limits.V2 limit) }
-        ensures seats { IfOk result (λ core. core.seats ≡ []) }
-        ensures refusals { IfOk result (λ core. core.refusals ≡ 0) }
-    {
-        Core::with_limits(alloc, limit, Limits::V2)
-    }
-
     /// No nodes but the root, no seats and no entries, for as many nodes as the limits of the second version allow, by which it
     /// keeps its tree. The only error is out of memory.
     pub fn new(alloc: Global) -> Result<Core, AllocError>
@@ -351,7 +341,7 @@ impl Core {
         ensures seats { IfOk result (λ core. core.seats ≡ []) }
         ensures refusals { IfOk result (λ core. core.refusals ≡ 0) }
     {
-        Core::with_limit(alloc, Limits::V2.nodes())
+        Core::with_limits(alloc, Limits::V2.nodes(), Limits::V2)
     }
 
     /// One more seat, with no pending call: the first is 0, and each next one is one more. If memory runs out, nothing

@@ -98,13 +98,6 @@ pub fn start(starting: &mut Option<CallNo>, call: CallNo, op: &Op)
     *starting = if op.is_decided() { None } else { Some(call) };
 }
 
-/// The call that went for the root has taken it, or no call did.
-pub fn set_out(starting: &mut Option<CallNo>)
-    ensures { starting.new ≡ None }
-{
-    *starting = None;
-}
-
 /// The call on a seat leaves it.
 pub fn take_out(slot: &mut Option<Running>) -> Running
     requires { IsSome slot.old }

@@ -2,6 +2,7 @@
 
 ghost use Rattle.std.specs.Prelude.{◌≡◌, ◌<◌, ◌≤◌, ℕ, length, IfOk, OnOk, IfErr, IfSome, IsSome, MatchOption, MatchBool};
 ghost use Rattle.fs_laws.specs.OneCall.{StepsTo};
+ghost use Rattle.fs_machine.specs.States.{Step};
 ghost use Rattle.fs_core.specs.CoreValues.{state_of, IsAtRest};
 ghost use Rattle.fs_embed.specs.Requests.{asked};
 ghost use Rattle.fs_embed.specs.Calls.{BeginsCall, IsNotBegun, RunsCall, IsNotReturned, Steps, IsWaiting, StepsAs, StandsStill, GoesOnAs, LeavesFewer, LeavesNone, code_of, about_of};
@@ -129,22 +130,35 @@ pub fn run_call(
     }
 }
 
-/// What a step did, as numbers.
-fn told(stepped: &Stepped) -> StepTold
-    ensures code { result.code ≡ code_of stepped.now }
-    ensures about { result.about ≡ about_of stepped.now }
+impl StepTold {
+    /// What a step did.
+    pub fn of(stepped: &Stepped) -> StepTold
+        ensures code { result.code ≡ code_of stepped.now }
+        ensures about { result.about ≡ about_of stepped.now }
+    {
+        let (code, about) = match stepped {
+            Stepped::Idle => (0, 0),
+            Stepped::Took(node) => (1, node.get() as u64),
+            Stepped::Busy(_, holder) => (2, holder.get()),
+            Stepped::LetGo(node) => (3, node.get() as u64),
+            Stepped::Helped(helped) => (4, helped.get()),
+            Stepped::Committed => (5, 0),
+            Stepped::CarriedOut => (6, 0),
+            Stepped::Returned(_) => (7, 0),
+        };
+        StepTold { code, about }
+    }
+}
+
+/// Does one step of the call on a seat, if there is such a seat.
+pub fn step_of(core: &mut Core, seat: SeatNo) -> Option<Stepped>
+    ensures step { MatchOption result ((length core.old.seats ≤ seat) × (core.new ≡ core.old)) (λ stepped. Step (state_of core.old) seat stepped (state_of core.new)) }
+    ensures seats { length core.new.seats ≡ length core.old.seats }
 {
-    let (code, about) = match stepped {
-        Stepped::Idle => (0, 0),
-        Stepped::Took(node) => (1, node.get() as u64),
-        Stepped::Busy(_, holder) => (2, holder.get()),
-        Stepped::LetGo(node) => (3, node.get() as u64),
-        Stepped::Helped(helped) => (4, helped.get()),
-        Stepped::Committed => (5, 0),
-        Stepped::CarriedOut => (6, 0),
-        Stepped::Returned(_) => (7, 0),
-    };
-    StepTold { code, about }
+    if !has_seat(core, seat) {
+        return None;
+    }
+    Some(core.step(seat))
 }
 
 /// Does one step of the call on a seat, and answers what it did; `None` if there is no such seat.
@@ -155,7 +169,7 @@ pub fn step_seat(core: &mut Core, seat: SeatNo) -> Option<StepTold>
     if !has_seat(core, seat) {
         return None;
     }
-    Some(told(&core.step(seat)))
+    Some(StepTold::of(&core.step(seat)))
 }
 
 /// Does the step of a seat with which its call goes on, and answers what it did; `None` if the call waits, or there is
@@ -168,7 +182,7 @@ fn step_on(core: &mut Core, seat: SeatNo) -> Option<StepTold>
     match core.step(seat) {
         Stepped::Idle => None,
         Stepped::Busy(_, _) => None,
-        stepped => Some(told(&stepped)),
+        stepped => Some(StepTold::of(&stepped)),
     }
 }
 

@@ -30,7 +30,7 @@ mod texts;
 pub mod told;
 
 pub use calls::{
-    NotBegun, NotReturned, Returned, StepTold, begin_call, run_call, step_any, step_seat,
+    NotBegun, NotReturned, Returned, StepTold, begin_call, run_call, step_any, step_of, step_seat,
 };
 pub use checkpoint::{again, hand_out, tell_why_not};
 pub use keeping::{begin_kept, keep_last, run_kept};

@@ -1,1 +1,1 @@
-mod Covering
+pub mod Covering

@@ -39,36 +39,38 @@ pub fn queue_of(node: NodeNo) -> usize
     node.get() % QUEUES
 }
 
-/// A queue with one thread more, which sleeps for this node.
-fn joined(queue: &Queue, node: NodeNo) -> Queue
-    ensures { (other slept : ℕ) → Notes queue.now other slept → Notes result other (one_more node other slept) }
-{
-    match queue {
-        Queue::Empty => Queue::ForOne(node, 1),
-        Queue::ForOne(before, most) if *before == node && *most < u64::MAX => {
-            Queue::ForOne(node, *most + 1)
+impl Queue {
+    /// The queue with one thread more, which sleeps for this node.
+    pub fn joined(&self, node: NodeNo) -> Queue
+        ensures { (other slept : ℕ) → Notes self.now other slept → Notes result other (one_more node other slept) }
+    {
+        match self {
+            Queue::Empty => Queue::ForOne(node, 1),
+            Queue::ForOne(before, most) if *before == node && *most < u64::MAX => {
+                Queue::ForOne(node, *most + 1)
+            }
+            _ => Queue::ForSeveral,
         }
-        _ => Queue::ForSeveral,
     }
-}
 
-/// Whom a free node of a queue wakes, and the queue after that.
-fn woken(queue: &Queue, node: NodeNo) -> (Wake, Queue)
-    ensures due { IsDue result.0 queue.now node }
-    ensures enough { (other slept : ℕ) → Notes queue.now other slept → IsEnough result.0 node other slept }
-    ensures left { (other slept : ℕ) → Notes queue.now other slept → Notes result.1 other (less result.0 node other slept) }
-{
-    match queue {
-        Queue::ForOne(before, most) if *before == node => {
-            let left = if *most > 1 {
-                Queue::ForOne(node, *most - 1)
-            } else {
-                Queue::Empty
-            };
-            (Wake::One, left)
+    /// Whom a free node of the queue wakes, and the queue after that.
+    pub fn woken(&self, node: NodeNo) -> (Wake, Queue)
+        ensures due { IsDue result.0 self.now node }
+        ensures enough { (other slept : ℕ) → Notes self.now other slept → IsEnough result.0 node other slept }
+        ensures left { (other slept : ℕ) → Notes self.now other slept → Notes result.1 other (less result.0 node other slept) }
+    {
+        match self {
+            Queue::ForOne(before, most) if *before == node => {
+                let left = if *most > 1 {
+                    Queue::ForOne(node, *most - 1)
+                } else {
+                    Queue::Empty
+                };
+                (Wake::One, left)
+            }
+            Queue::ForSeveral => (Wake::All, Queue::Empty),
+            _ => (Wake::Nobody, *self),
         }
-        Queue::ForSeveral => (Wake::All, Queue::Empty),
-        _ => (Wake::Nobody, *queue),
     }
 }
 
@@ -102,7 +104,7 @@ impl Sleepers {
         ensures { (sleeping : ℕ → ℕ) → Covers self.old sleeping → Covers self.new (λ other. one_more node other (sleeping other)) }
     {
         let queue = queue_of(node);
-        self.queues[queue] = joined(&self.queues[queue], node);
+        self.queues[queue] = self.queues[queue].joined(node);
     }
 
     /// Whom a free node wakes. The caller wakes them before anybody else comes to the queues.
@@ -112,7 +114,7 @@ impl Sleepers {
         ensures left { (sleeping : ℕ → ℕ) → Covers self.old sleeping → Covers self.new (woken_for result node sleeping) }
     {
         let queue = queue_of(node);
-        let (wake, left) = woken(&self.queues[queue], node);
+        let (wake, left) = self.queues[queue].woken(node);
         self.queues[queue] = left;
         wake
     }

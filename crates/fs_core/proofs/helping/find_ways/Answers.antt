@@ -1,8 +1,7 @@
-use Rattle.std.proofs.Common.{◌≡◌, ℕ, ◌<◌, length, get_or, sym, ◌∙◌, refl, arith, subst}
+use Rattle.std.proofs.Common.{◌≡◌, ℕ, ◌<◌, length, get_or, ◌∙◌, refl, arith, subst}
 use Rattle.std.proofs.lemmas.List.{length-set}
 use Rattle.fs_nodes.specs.Stores.{child}
-use Rattle.fs_core.specs.declared.helping.Way.{Way}
-use Rattle.fs_core.specs.code.Searches.{AreWays, IsWay}
+use Rattle.fs_core.specs.code.Searches.{AreWays}
 use Rattle.fs_core.proofs.Ways.{ways_more}
 use Rattle.fs_core.proofs.helping.find_ways.Goals as goal
 
@@ -11,9 +10,8 @@ loop-i-preserved c =
     let inside : get_or c.args.listed.now c.loop-i.i 0 < length c.args.seats.now = c.requires.can.all.inside c.loop-i.i c.loop-i-test.true in
     let within : get_or c.args.listed.now c.loop-i.i 0 < length c.loop-i.ways = omega (arith, inside, c.loop-i.invariant.same, c.requires.ways) in
     record {
-      ways = ways_more (child c.args.store.now) c.args.seats.now c.args.moved.now c.args.listed.now c.loop-i.i c.loop-i.ways _ c.put.new.place within refl
-          (subst (λ (w : Way). IsWay (child c.args.store.now) c.args.seats.now c.args.moved.now (get_or c.args.listed.now c.loop-i.i 0) w) (sym c.put.ensures) c.way_of.ensures) c.loop-i.invariant.ways;
-      same = length-set c.loop-i.ways (get_or c.args.listed.now c.loop-i.i 0) c.put.new.place ∙ c.loop-i.invariant.same;
+      ways = ways_more (child c.args.store.now) c.args.seats.now c.args.moved.now c.args.listed.now c.loop-i.i c.loop-i.ways _ c.way_of.result within refl c.way_of.ensures c.loop-i.invariant.ways;
+      same = length-set c.loop-i.ways (get_or c.args.listed.now c.loop-i.i 0) c.way_of.result ∙ c.loop-i.invariant.same;
     }
 
 pub returns-clause-ways : goal.returns-clause-ways

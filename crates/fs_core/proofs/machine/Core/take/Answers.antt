@@ -1,4 +1,4 @@
-use Rattle.std.proofs.Common.{refl}
+use Rattle.std.proofs.Common.{None, refl}
 use Rattle.fs_core.proofs.Doing.{take_within, take_another, take_few, took_kept, busy_step}
 use Rattle.fs_core.proofs.SeatLemmas.{length_after}
 use Rattle.fs_core.proofs.Starting.{starting_left}
@@ -19,7 +19,7 @@ invariant_of-self-in-Ok c = (
   (took_kept _ _ _ _ c.args.seat c.args.call c.args.node c.self.invariant.0 (rw (← c.self.view_is) at c.requires.moves) (c.in-Ok.ensures.free.0 refl)
       c.take.new.self c.index_mut-in-Ok.result.now c.take-in-Ok.new.slot c.in-Ok.ensures.ok c.in-Ok.ensures.room c.index_mut-in-Ok.ensures.value c.take-in-Ok.ensures).1,
   length_after _ _ _ _ c.self.invariant.1,
-  starting_left _ _ c.args.seat c.set_out.new.starting c.take-in-Ok.new.slot c.self.invariant.2 (rw (← c.self.view_is) at c.requires.seat) c.set_out.ensures,
+  starting_left _ _ c.args.seat None c.take-in-Ok.new.slot c.self.invariant.2 (rw (← c.self.view_is) at c.requires.seat) refl,
   among_moved _ _ _ c.args.seat c.args.call _ c.take-in-Ok.new.slot c.self.invariant.3 (rw (← c.self.view_is) at c.requires.moves),
 )
 
