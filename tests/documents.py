@@ -444,8 +444,8 @@ class Shown(Page):
         ("docs/RATTLE.md", "rust", 2, "tests/documents.py"),
         ("docs/READING-LIST.md", "", 1, "tests/documents.py"),
         ("docs/FORMATS.md", "", 2, "tests/documents.py"),
-        ("docs/COMMANDS.md", "", 3, "tests/progress.py, tests/dialects.py"),
-        ("docs/PICTURES.md", "", 2, "tests/objects.py"),
+        ("docs/COMMANDS.md", "", 4, "tests/progress.py, tests/dialects.py"),
+        ("docs/PICTURES.md", "", 3, "tests/objects.py"),
         ("docs/PLAYER.md", "python", 1, "tests/tutorials.py"),
         ("docs/TEST-A-FILE-SYSTEM.md", "", 4, "tests/histories.py, tests/recorders.py"),
         ("docs/TEST-A-FILE-SYSTEM.md", "python", 1, "tests/tutorials.py"),
@@ -1180,7 +1180,7 @@ class Believed(Sentences):
         )
         found = [
             function.name
-            for crate in ("fs_core", "fs_sched", "fs_share")
+            for crate in ("fs_core", "fs_sched", "fs_start", "fs_share")
             for function in promises.public(CRATES / crate)
             if "linearizable" in [clause.name for clause in function.ensures]
         ]

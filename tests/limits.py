@@ -8,6 +8,7 @@ import contextlib
 import itertools
 import os
 import pathlib
+import random
 import resource
 import subprocess
 import sys
@@ -100,6 +101,53 @@ def of_model(calls: typing.Sequence[str]) -> Outcome:
     for number, call in enumerate(calls, 1):
         text += [f"begin {number} 0 {call}", f"commit {number}", f"return {number} {tree.apply(call.split(' '))}"]
     return well("".join(f"{line}\n" for line in (*text, *tree.text())), counts(len(calls)))
+
+
+def drawn_entries(seed: int, count: int) -> list[str]:
+    """Calls on the entries of two directories, drawn so that one has thousands for a while, and few at last: they come, go, and get other names."""
+    draw = random.Random(seed)
+    known: dict[str, list[str]] = {"/d": [], "/e": []}
+    calls = ["mkdir /d", "mkdir /e"]
+
+    def new() -> str:
+        number = draw.randrange(count)
+        return (
+            f"{number:06}"
+            if draw.random() < 0.8
+            else f"{number:06}, a name that needs memory of its own".replace(" ", "%20")
+        )
+
+    while len(calls) < count:
+        folder, other = ("/d", "/e") if draw.random() < 0.9 else ("/e", "/d")
+        entries = known[folder]
+        old = entries.pop(draw.randrange(len(entries))) if entries and draw.random() < 0.95 else new()
+        comes, goes = (60, 10) if len(calls) < count * 0.6 else (5, 60)
+        kind = draw.choices(
+            ("mknod", "unlink", "rename", "away", "exchange", "list", "stat"), (comes, goes, 20, 5, 5, 5, 10)
+        )[0]
+        name = new()
+        match kind:
+            case "mknod":
+                calls.append(f"mknod {folder}/{name}")
+                entries += old, name
+            case "unlink":
+                calls.append(f"unlink {folder}/{old}")
+            case "rename":
+                calls.append(f"rename {folder}/{old} {folder}/{name}")
+                entries.append(name)
+            case "away":
+                calls.append(f"rename {folder}/{old} {other}/{name}")
+                known[other].append(name)
+            case "exchange":
+                calls.append(f"exchange {folder}/{old} {folder}/{draw.choice(entries or [name])}")
+                entries.append(old)
+            case "list":
+                calls.append(f"list {folder} {folder}/{name} {draw.randrange(300)}")
+                entries.append(old)
+            case "stat":
+                calls.append(f"stat {draw.choice((folder, f'{folder}/{old}'))}")
+                entries.append(old)
+    return calls
 
 
 def long_names() -> Lines:
@@ -706,6 +754,17 @@ class Limits(Case):
             ),
             self.ends,
         )
+
+    def test_entries_that_come_and_go(self) -> None:
+        """Thousands of entries of one directory, by the model: the run, the judge, and the tree that the journal makes."""
+        for seed in (1, 2):
+            with self.subTest(seed=seed):
+                calls = drawn_entries(seed, 12_000)
+                ran = of_model(calls)
+                self.ends(third(calls), RUN, ran)
+                self.compare(
+                    ("tree",), Outcome(0, ran.output[ran.output.index(b"\ntree\n") + 1 : ran.output.rindex(b"begun ")])
+                )
 
     def test_levels(self) -> None:
         """More than a path can name: a tree that is made from its leaf up, and taken apart from its root down."""

@@ -29,6 +29,11 @@ PIECES = b"atomfs 1\nthread t\nmkdir /a\nschedule\n!checkpoint t*7 !checkpoint !
 LEFT = b"atomfs 1\nthread m\nmkdir /a\nmkdir /a/d\nthread r\nmknod /x\nstat /a\nthread w\nmkdir /q\nschedule\nm*4 r*3\n"
 UNDER_WAY = b"atomfs 1\nthread m\nmkdir /a\nschedule\nm*2 !checkpoint finish\n"
 CHECKPOINT = "checkpoint, the next call is call 1"
+# It starts at a tree, and some calls fail.
+STARTED = (
+    b"atomfs-journal 2\nstart\ndir /\ndir /a\nfile /a/f 6869\nentries\nbegin 7 0 rename /a /b\nbegin 9 31 mkdir /b\ncommit 7\ncommit 9\n"
+    b"return 9 failed EEXIST\nreturn 7 ok\nbegin 12 0 truncate /b/f 2\ncommit 12\nreturn 12 ok\nbegin 13 0 exchange /b /b/f\n"
+)
 SHORT = {'"': '\\"', "\\": "\\\\", "\n": "\\n"}
 
 
@@ -145,6 +150,38 @@ def of_trace(text: bytes) -> Iterator[dict[str, object]]:
     *nodes, counts = end.splitlines(keepends=True)
     numbers = dict(zip(counts.split()[::2], map(int, counts.split()[1::2])))
     yield {"did": "ends", "tree": tree + "".join(nodes), **numbers}
+
+
+def of_entry(line: str) -> dict[str, object]:
+    """The object of a line of the trace of a journal, up to its tree."""
+    if found := re.fullmatch(r"left call (\d+) on seat (\d+) (.*)", line):
+        number, seat, words = found.groups()
+        return {"did": "has not returned", "number": int(number), "seat": int(seat), "words": words}
+    place, number, seat, said = harness.match_in(r"\A(\d+) call (\d+) on seat (\d+) (.*)\Z", line).groups()
+    did, _, rest = said.partition(" ")
+    told = {"words": rest} if did == "begins" else of_deed(said)
+    return {
+        "entry": int(place),
+        "did": did.removesuffix(","),
+        "number": int(number),
+        "seat": int(seat),
+        **{name: member for name, member in told.items() if name != "did"},
+    }
+
+
+def of_journal(text: bytes) -> Iterator[dict[str, object]]:
+    """The objects of the trace of a journal: one of each line, and one of its tree and its counts."""
+    head, tree, end = text.decode("latin-1").partition("tree\n")
+    yield from map(of_entry, head.splitlines()[1:])
+    *nodes, counts = end.splitlines(keepends=True)
+    numbers = dict(zip(counts.split()[::2], map(int, counts.split()[1::2])))
+    yield {"did": "ends", "tree": tree + "".join(nodes), **numbers}
+
+
+def cut_off(journal: bytes, number: int) -> bytes:
+    """A journal up to some entry."""
+    entries = journal.partition(b"tree\n")[0].splitlines(keepends=True)
+    return b"".join(entries[: random.Random(number).randrange(1, len(entries) + 1)])
 
 
 def rows_of(text: bytes) -> list[list[str]]:
@@ -274,15 +311,36 @@ class Objects(Case):
     def test_example_of_the_page(self) -> None:
         """docs/PICTURES.md has two lines of a worked script."""
         page = (ROOT / "docs" / "PICTURES.md").read_text()
-        shown = re.findall(r"^\{.*\}$", page, re.M)
+        shown = re.findall(r'^\{"event".*\}$', page, re.M)
         told = run((DATA / "worked" / "runs" / "helped_mkdir.script").read_bytes(), "trace", "--json")
         if harness.compares:
             lines = told.output.decode().splitlines()
             self.same("docs/PICTURES.md", (len(shown), [line for line in lines if line in shown]), (2, shown))
 
-    def test_a_journal_is_not_traced(self) -> None:
-        """The objects of a trace are of a script: a journal is refused as where it is to be run."""
-        self.same(WRONG.decode(), run(WRONG, "trace", "--json"), run(WRONG, "run"))
+    def test_trace_of_a_journal(self) -> None:
+        """Of each worked journal and of those of drawn runs; of a fault those before it, and a journal that is cut off has calls that did not return."""
+        asks_of_answers()
+
+        def look(given: bytes) -> None:
+            self.ends_alike(given, ("trace",), lambda plain: objects(*of_journal(plain.output)))
+
+        folders = DATA / "worked" / "journals", ROOT / "examples"
+        rows = [(path.name, path.read_bytes()) for folder in folders for path in sorted(folder.glob("*.journal"))]
+        for number in range(0, SCRIPTS + LISTING, 3):
+            journal = run(script_of(number), "run", "--seed", str(number)).output
+            rows += [(f"script_{number}", journal), (f"cut_{number}", cut_off(journal, number))]
+        rows += [("wrong", WRONG), ("started", STARTED), ("bytes", run(BYTES, "run").output)]
+        self.each(rows, look)
+
+    def test_example_of_a_journal(self) -> None:
+        """docs/PICTURES.md has two lines of a journal."""
+        page = (ROOT / "docs" / "PICTURES.md").read_text()
+        shown = re.findall(r'^\{"entry".*\}$', page, re.M)
+        told = run((ROOT / "examples" / "wrong_reply.journal").read_bytes(), "trace", "--json").output.decode()
+        if harness.compares:
+            self.same(
+                "docs/PICTURES.md", (len(shown), [line for line in shown if line not in told.splitlines()]), (2, [])
+            )
 
     def test_faults(self) -> None:
         """What cannot be read is told as without, and no object is written."""

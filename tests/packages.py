@@ -25,6 +25,8 @@ from harness import ROOT, Case, match_in
 from website import has_markdown
 
 BINDINGS, EMBED, CRATES = ROOT / "bindings", ROOT / "embed", ROOT / "crates"
+# What shared.c calls besides what the header declares.
+ASLEEP = EMBED / "asleep.h"
 HEADER = (EMBED / "atomfs.h").read_text()
 VERSION = harness.declared().version
 # The numbers of the header by their names.
@@ -468,16 +470,10 @@ class ForPython(Installed):
         """The types of the package are right for the least Python that it is for."""
         wanted("mypy")
         least = match_in(r'^requires-python = ">=(.*)"$', (BINDINGS / "python" / "pyproject.toml").read_text(), re.M)[1]
-        words = (
-            "mypy",
-            "--strict",
-            "--python-version",
-            least,
-            "--cache-dir",
-            self.folder / "types",
-            BINDINGS / "python" / "src" / "atomfs",
-        )
-        self.ends(words, pattern="^Success: ")
+        table = BINDINGS / "python" / "pyproject.toml"
+        self.same(table, re.findall(r'^python_version = "(.*)"$', table.read_text(), re.M), [least])
+        words = "mypy", "--config-file", table, "--cache-dir", self.folder / "types"
+        self.ends((*words, BINDINGS / "python" / "src" / "atomfs"), pattern="^Success: ")
 
     def test_no_library(self) -> None:
         """Without the shared object the build says what is missing."""
@@ -542,7 +538,7 @@ class ForRust(Installed):
 class Layout(Case):
     """The sources in Rust, Python and C are laid out by rustfmt, black and clang-format, with one line length: by rustfmt.toml, .clang-format and the tables
     in pyproject.toml. Another version than the one named here may lay out otherwise, and is not asked. The tests
-    have types.
+    have types, as the tables of mypy ask.
     """
 
     VERSIONS = {"black": "23.1", "clang-format": "14.0"}
@@ -580,7 +576,7 @@ class Layout(Case):
         """The types of all tests are right."""
         wanted("mypy")
         with tempfile.TemporaryDirectory(prefix="atomfs-") as cache:
-            words = "mypy", "--strict", "--python-version", "3.11", "--cache-dir", cache
+            words = "mypy", "--config-file", ROOT / "pyproject.toml", "--cache-dir", cache
             names = sorted(path.name for path in (ROOT / "tests").glob("*.py"))
             status, told = done([*words, *names], ROOT / "tests")
         self.same(f"mypy --strict\n{told}", status, 0)
@@ -591,9 +587,16 @@ class Layout(Case):
         package = BINDINGS / "python"
         with tempfile.TemporaryDirectory(prefix="atomfs-") as cache:
             # Some tests import packages that are optional, or have no types.
-            words = "mypy", "--strict", "--no-warn-unused-ignores", "--python-version", "3.9", "--cache-dir", cache
+            words = (
+                "mypy",
+                "--config-file",
+                package / "pyproject.toml",
+                "--no-warn-unused-ignores",
+                "--cache-dir",
+                cache,
+            )
             names = sorted(path.name for path in (package / "tests").glob("*.py"))
-            status, told = done([*words, *names], package / "tests", MYPYPATH=str(package / "src"))
+            status, told = done([*words, *names], package / "tests")
         self.same(f"mypy --strict\n{told}", status, 0)
 
     def test_clang_format(self) -> None:
@@ -759,9 +762,7 @@ class Numbers(Case):
         """The types of the parameters of a prototype in C, without the names that they may have."""
         words = (re.findall(r"\w+|\*", one) for one in text.split(","))
         types = [[word for word in one if word != "*"] + ["*"] * one.count("*") for one in words if one != ["void"]]
-        known = (
-            "const struct void char atomfs atomfs_stat atomfs_request atomfs_shared atomfs_session atomfs_gate".split()
-        )
+        known = "const struct void char atomfs atomfs_stat atomfs_request atomfs_shared atomfs_session atomfs_gate atomfs_asleep atomfs_went".split()
         kept = ([word for word in one if word in known or word.endswith("_t") or word == "*"] for one in types)
         return [" ".join(one) for one in kept]
 
@@ -795,6 +796,8 @@ class Numbers(Case):
         "Global": [],
         "&mut Handle": ["atomfs *"],
         "&mut Stat": ["struct atomfs_stat *"],
+        "&mut Asleep": ["struct atomfs_asleep *"],
+        "&mut Went": ["struct atomfs_went *"],
         "&[u8]": ["const char *", "size_t"],
         "&mut [u8]": ["char *", "size_t"],
         "&mut usize": ["size_t *"],
@@ -816,14 +819,38 @@ class Numbers(Case):
         return found
 
     def test_prototypes(self) -> None:
-        """embed/proved.h declares each proved function with the parameters that it has, in their order."""
-        text = re.sub(r"\n +", " ", harness.reader().PROVED.read_text())
+        """embed/proved.h and embed/asleep.h declare each proved function with the parameters that it has, in their order."""
+        text = re.sub(r"\n +", " ", harness.reader().PROVED.read_text() + ASLEEP.read_text())
         declared = {
             name: [type.replace("void *", "char *") for type in self.types(arguments)]
             for name, arguments in re.findall(r"^uint8_t PROVED\((\w+)\)\(([^;]*)\);", text, re.M)
         }
         self.assertGreater(len(declared), 40)
-        self.same("embed/proved.h", declared, self.exports())
+        self.same("the prototypes", declared, self.exports())
+
+    # The structures of embed/asleep.h, by their names in Rattle, and their types there.
+    OF_SLEEPERS = {"Noted": "atomfs_noted", "Asleep": "atomfs_asleep", "Went": "atomfs_went"}
+    ITS_TYPES = {"bool": "bool", "u8": "uint8_t", "u64": "uint64_t"}
+
+    def test_sleepers(self) -> None:
+        """The structures of embed/asleep.h have the fields of those in Rattle, in their order, and as many queues as there are."""
+        of_c = {
+            name: re.findall(r"([\w ]+?) (\w+)(?:\[\w+\])?;", fields)
+            for name, fields in re.findall(r"^struct (\w+) \{(.*?)^\};", ASLEEP.read_text(), re.M | re.S)
+        }
+        rattle = (CRATES / "atomfs_c" / "src" / "sleepers.rt").read_text()
+        of_rattle = {
+            self.OF_SLEEPERS[name]: [
+                (self.ITS_TYPES.get(type) or f"struct {self.OF_SLEEPERS[type[1:].split(';')[0]]}", field)
+                for field, type in re.findall(r"pub (\w+): (.*),", fields)
+            ]
+            for name, fields in re.findall(r"^pub struct (\w+) \{(.*?)^\}", rattle, re.M | re.S)
+        }
+        stripped = {name: [(type.strip(), field) for type, field in fields] for name, fields in of_c.items()}
+        self.same("embed/asleep.h", stripped, of_rattle)
+        queues = match_in(r"QUEUES: usize = (\d+);", (CRATES / "fs_wait" / "src" / "sleepers.rt").read_text())[1]
+        self.same("its queues", match_in(r"ATOMFS_QUEUES = (\d+)", ASLEEP.read_text())[1], queues)
+        self.same("the queues of its structure", re.findall(r"\[Noted; (\d+)\]", rattle), [queues])
 
     def test_handed_on(self) -> None:
         """Each function of embed/checks.c that takes what the proved one takes hands its parameters on in their order."""
@@ -840,7 +867,9 @@ class Numbers(Case):
         # What these take is put together from other things.
         for name in ("begin_call", "open_at"):
             looked_at.pop(name)
-        self.same("the functions", sorted(looked_at), sorted(set(self.exports()) - {"begin_call", "open_at"}))
+        of_shared = re.findall(r"PROVED\((\w+)\)", ASLEEP.read_text())
+        handed = set(self.exports()) - {"begin_call", "open_at"} - set(of_shared)
+        self.same("the functions", sorted(looked_at), sorted(handed))
         self.each(((name, f"atomfs_{name}", came, due) for name, (due, came) in looked_at.items()), self.same)
 
     @staticmethod

@@ -356,6 +356,26 @@ class Histories(Case):
         due = {"(mkdir /a)": ["walk", False], "(rmdir /a)": ["open", True], "(mkdir /a/b)": ["walk", False]}
         self.same("bars", (bars, has_legend), ({**due, "(stat /a)": ["open", False]}, True))
 
+    def test_front(self) -> None:
+        """So has the program's page of a journal that ends with that return, also without notes; an earlier entry is named as it is."""
+        wants_chromium()
+        front = b"".join(self.NONE.splitlines(keepends=True)[:9])
+        ask = f"show(end); return [{self.SEEN}]"
+        news, said = (
+            "3 calls on 2 threads; no order explains that rmdir /a returned ok",
+            "seat 0#2 (rmdir /a) returns ok. ",
+        )
+        told = asked(noted(front, "fault 8 ReturnUncommitted"), ask)
+        self.same("without notes", told, [news, said + "No order explains this reply."])
+        told = asked(noted(front, *self.NOTES), ask)
+        self.same(
+            "with notes",
+            told,
+            [news, said + "No order explains this reply. The call could have replied: failed ENOTEMPTY."],
+        )
+        told = asked(noted(front + b"begin 4 1 stat /a\n", "fault 8 ReturnUncommitted"), ask.replace("end", "8"))
+        self.same("an earlier entry", told[1], said + "This is wrong: ReturnUncommitted.")
+
     def test_lawful(self) -> None:
         wants_chromium()
         text = b"atomfs-journal 1\nbegin 1 0 mkdir /a\ncommit 1\nreturn 1 ok\n"
@@ -378,6 +398,43 @@ class Histories(Case):
         wanted = [[["mkdir /a/b"], "seat 0#2 (rmdir /a) met seat 1#1 (mkdir /a/b)."], [[], ""]]
         self.same("met", told, [*wanted, [[], "seat 1#2 (stat /a) met no other call."], both, both])
         self.same("focus", [focused, count], ["mkdir /a/b", "event 7 (7 of 10)"])
+
+
+class Bytes(Case):
+    """Bytes are text where all are printable, and many are cut; the list of events has all."""
+
+    def test_bytes(self) -> None:
+        wants_chromium()
+        trace = run(pictures.BYTES, "trace").output
+        ask = (
+            "const all = run.events.map((_, at) => { show(at + 1); return byId('sentence').textContent; }); show(end);"
+        )
+        ask += "const rows = name => [...document.querySelectorAll(`#${name} li`)].map(row => row.textContent);"
+        ask += "return [all.filter(words => / begins | returns bytes/.test(words)), rows('calls'), rows('events').length, rows('events').filter(row => /706f7274/.test(row)).length > 0];"
+        told, calls, _, has_digits = asked(page_of(trace, policy=False), ask)
+        self.same(
+            "begins",
+            [words for words in told if "write" in words][:2],
+            ['w begins w#2: write /config 0 "port=80\\n".', "w begins w#3: write /config 8 00ff."],
+        )
+        self.same(
+            "returns",
+            [words for words in told if "returns bytes" in words][0],
+            'r#1 (read /config 0 99) returns bytes "".',
+        )
+        self.same(
+            "calls", '3. w#2 write /config 0 "port=80\\n"  \u2192 wrote 8' in [row.strip() for row in calls], True
+        )
+        self.same("events", has_digits, True)
+
+    def test_many(self) -> None:
+        wants_chromium()
+        text = (
+            b"atomfs-journal 1\nbegin 1 0 mknod /f\ncommit 1\nreturn 1 ok\nbegin 2 0 write /f 0 %s\ncommit 2\nreturn 2 wrote 100\n"
+            % (b"61" * 100)
+        )
+        told = asked(page_of(text, policy=False), "show(4); return byId('sentence').textContent")
+        self.same("cut", told, 'seat 0 begins seat 0#2: write /f 0 "' + "a" * 60 + '"\u2026.')
 
 
 class Played(Case):
@@ -493,6 +550,20 @@ class Played(Case):
         )
         self.assertGreater(events, 3_000)
         self.assertLess(rows, 200)
+
+    def test_print(self) -> None:
+        """On paper all events of a short run are seen, whichever are on the screen; of a long one those around this one."""
+        wants_chromium()
+        seen = "[...document.querySelectorAll('#events li')].map(row => parseInt(row.textContent))"
+        ask = f"show(27); dispatchEvent(new Event('beforeprint')); return {seen}"
+        self.same("a short run", asked(self.page(), ask), list(range(1, 28)))
+        name, given, *words = next(row for row in pictures.LARGE if row[0] == "five_hundred_calls")
+        page = page_of(run(given, "trace", *words).output, policy=False)
+        told = asked(
+            page,
+            f"show(3000); dispatchEvent(new Event('beforeprint')); return [{seen}.length, run.events[2999].number, {seen}]",
+        )
+        self.same("a long run", (400 <= told[0] < 500, told[1] in told[2]), (True, True))
 
     def test_many_seats(self) -> None:
         """Nor of a journal with many seats, whose states that are kept grow with the events alone."""

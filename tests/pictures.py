@@ -68,11 +68,19 @@ ALIKE = (
     )
     + b"schedule\nfinish\n"
 )
+# The last of fifteen calls, each of which commits alone.
+LATER = (
+    b"atomfs 1\nthread t\n"
+    + b"".join(b"mkdir /d%d\n" % number for number in range(1, 15))
+    + b"mkdir /d14/x\nschedule\nfinish\n"
+)
 # Bytes that are text, and such that are none.
 BYTES = (
     b"atomfs 3\nthread w\nmknod /config\nwrite /config 0 706f72743d38300a\nwrite /config 8 00ff\nread /config 0 99\n"
     b"thread r\nread /config 0 99\nschedule\nw*6 r*8 finish\n"
 )
+# A call waits for another one, again and again.
+WAITS = b"atomfs 1\nthread m\nmkdir /a\nmkdir /a/b\nthread r\nrmdir /a\nstat /a\nschedule\nm*2 r*2 m r m r m r m r m r m*2 r*3 finish\n"
 # A tree of more entries than are shown, of which two commits move and add some.
 LARGE_TREE = (
     b"atomfs-journal 4\nstart\ndir /\n"
@@ -98,6 +106,8 @@ STORED: tuple[tuple[typing.Any, ...], ...] = (
     ("many_pieces", MANY_PIECES),
     ("checkpoints_at_the_ends", traces.AT_THE_ENDS),
     ("nothing_but_a_checkpoint", traces.NOTHING),
+    ("narrow", (RUNS / "helped_mkdir.script").read_bytes(), "--width", "560"),
+    ("folded", WAITS, "--fold"),
     ("front", FRONT),
     ("alike", ALIKE),
     ("bytes", BYTES),
@@ -157,6 +167,13 @@ LARGE: tuple[tuple[typing.Any, ...], ...] = (
     ("twenty_threads", crowd(20, 3, 3), "--seed", "3"),
     ("eight_pieces", crowd_in_pieces(8, 3, 5, 4)),
     ("lists", drawn.script(drawn.listing(random.Random(5)), version=3).encode(), "--seed", "3"),
+    ("eight_threads_narrow", crowd(8, 6, 1), "--seed", "3", "--width", "320"),
+    ("twenty_threads_narrow", crowd(20, 3, 3), "--seed", "3", "--width", "480"),
+    ("five_hundred_calls_wide", crowd(4, 125, 2), "--seed", "3", "--width", "4000"),
+    ("odd_narrow", ODD, "--seed", "4", "--width", "320"),
+    ("many_pieces_narrow", MANY_PIECES, "--width", "400"),
+    ("wrong_reply_narrow", (EXAMPLES / "wrong_reply.journal").read_bytes(), "--width", "320"),
+    ("large_tree_narrow", LARGE_TREE, "--width", "320"),
 )
 
 
@@ -167,6 +184,11 @@ def inputs() -> typing.Iterator[tuple[typing.Any, ...]]:
             yield f"{path.name}_{ending}", given
     yield from STORED
     yield from LARGE
+
+
+def schedule_in(words: typing.Sequence[str]) -> typing.Sequence[str]:
+    """The words that say by which schedule a run is drawn, which a trace takes too."""
+    return words[words.index("--seed") :][:2] if "--seed" in words else ()
 
 
 def counts(root: typing.Any) -> tuple[int, ...]:
@@ -202,7 +224,7 @@ class Counted(Case):
     def look(self, given: bytes, *words: str) -> None:
         came = run(given, "draw", *words)
         is_journal = given.startswith(b"atomfs-journal")
-        told = given if is_journal else run(given, "trace", *(words if words[:1] != ("--around",) else ())).output
+        told = given if is_journal else run(given, "trace", *schedule_in(words)).output
         if not harness.compares:
             return
         shown = given.decode(errors="backslashreplace")
@@ -310,6 +332,34 @@ class Asked(Case):
         came = run((EXAMPLES / "wrong_reply.journal").read_bytes(), "draw").output.decode()
         if harness.compares:
             self.same("wrong_reply.journal", re.findall(r", due (\w+)", came), ["ok"])
+
+
+class Widths(Case):
+    """A picture is as wide as `--width` says, with one row or several; without it as wide as what is drawn."""
+
+    def look(self, given: bytes, width: int, *words: str) -> None:
+        came = run(given, "draw", "--width", str(width), *words)
+        if harness.compares:
+            root = parsed(came.output)
+            self.same(given.decode(), (root.get("width"), root.get("viewBox").split()[2]), (str(width), str(width)))
+
+    def test_each(self) -> None:
+        helped, crowded = (RUNS / "helped_mkdir.script").read_bytes(), crowd(20, 3, 3)
+        wrong = (EXAMPLES / "wrong_reply.journal").read_bytes()
+        rows = [(helped, width) for width in (320, 560, 2_000, 16_384)] + [(crowded, 560, "--seed", "3"), (wrong, 560)]
+        self.each([(f"{number}", *row) for number, row in enumerate(rows)], self.look)
+
+    def test_refused(self) -> None:
+        """A width has its range; a page has no width, folds nothing, and is never around a call."""
+        for words in (
+            ("--width", "319"),
+            ("--width", "16385"),
+            ("--width", "wide"),
+            ("--html", "--width", "560"),
+            ("--html", "--fold"),
+            ("--html", "--around", "1"),
+        ):
+            self.same(" ".join(words), run(ODD, "draw", *words).status, 2)
 
 
 class SeatNames(Case):
@@ -703,6 +753,16 @@ class Trees(Case):
         for given, trees in rows:
             self.same(given.decode(), len(self.trees(given)), trees if harness.compares else 0)
 
+    def test_around(self) -> None:
+        """With `--around` the first tree is the one before the first commit that is drawn, which calls that are not drawn have made."""
+        harness.asks_of_answers()
+        found, of_journal = self.trees(LATER, "--around", "15"), self.trees(run(LATER, "run").output, "--around", "15")
+        if harness.compares:
+            self.same("how many trees of all", len(self.trees(LATER)), 2)
+            self.same("how many lines", [len(lines) for lines in found], [13, 13])
+            self.same("what is new", [[word for word in lines if "*" in word] for lines in found], [[], ["x*"]])
+            self.same("of its journal", of_journal, found)
+
     def test_of_a_large_tree(self) -> None:
         """What changed is shown, with what is above it."""
         found = self.trees(LARGE_TREE)
@@ -735,6 +795,19 @@ class Folded(Case):
         _, waits = self.look("eight_threads")
         if harness.compares:
             self.same("whether who holds a node is said", any("#" in word for word in waits), True)
+
+    def test_asked_for(self) -> None:
+        """With `--fold` each wait is one in the picture of two threads too; of more than eight it changes nothing."""
+        drawn = [run(WAITS, "draw", *words).output for words in ((), ("--fold",))]
+        if harness.compares:
+            waits = [
+                [text.text for text in parsed(picture).iter(SVG + "text") if text.get("class") == "v"]
+                for picture in drawn
+            ]
+            self.same("who holds the node", [any("m#" in word for word in words) for words in waits], [True, False])
+            self.same("what is waited for", [word for word in waits[1] if word == "/"], ["/", "/", "/"])
+        given, *words = next(row[1:] for row in LARGE if row[0] == "fourteen_threads")
+        self.same("fourteen threads", run(given, "draw", *words, "--fold"), run(given, "draw", *words))
 
 
 class Words(Case):

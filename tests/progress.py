@@ -402,6 +402,41 @@ class Layouts(Case):
         given = spaced(re.sub(rb"\(\S*%\)", b"", table))
         self.assertEqual(b"\n".join(on_one_terminal(given, "outcomes", "--add")[1]), table)
 
+    def test_entry_at_fault(self) -> None:
+        """`check` and `linearize` show the line of the entry at fault and three before it: in red, if there are colours, and before what is wrong with it."""
+        wrong = (DATA.parent.parent / "examples" / "wrong_reply.journal").read_bytes()
+        history = WRONG.replace(b"commit 1\n", b"\tbegin 2 9 stat /\\\r\n# \xff" + b"x" * 90 + b"\n")
+        page = (DATA.parent.parent / "docs" / "COMMANDS.md").read_bytes()
+        _, shown, *_ = re.findall(rb"^```\n(.*?)^```$", page, re.M | re.S)
+        cut = b"# \\xff" + b"x" * 71 + b"..."
+        rows = (
+            (wrong, ("check",), shown),
+            (
+                history.replace(b"\tbegin 2 9 stat /\\\r\n", b""),
+                ("linearize",),
+                b"       1 | atomfs-journal 1\n       2 | begin 1 0 mkdir /a\n       3 | "
+                + cut
+                + b"\n>      4 | return 1 failed EEXIST\n",
+            ),
+        )
+        for given, words, excerpt in rows:
+            bare = run(given, *words)
+            told = bare.output + excerpt + bare.message
+            self.assertEqual(on_one_terminal(given, *words)[2].replace(b"\r\n", b"\n"), told)
+            _, _, coloured = on_one_terminal(given, *words, no_color=None)
+            *_, marked = excerpt.splitlines()
+            self.assertIn(RED + marked + NO + b"\r\n", coloured)
+            self.assertEqual(plain(coloured).replace(b"\r\n", b"\n"), told)
+            # Standard error alone is a terminal: what a program reads there is as before.
+            self.assertEqual(on_terminal(given, *words)[2].replace(b"\r\n", b"\n"), bare.message)
+        late = b"atomfs-journal 1\n" + b"#\n" * 40_000 + WRONG.partition(b"\n")[2]
+        self.assertEqual(
+            on_one_terminal(late, "check")[1],
+            run(late, "check").output.split(b"\n")[:1] + run(late, "check").message.split(b"\n"),
+        )
+        lawful = WRONG.replace(b"failed EEXIST", b"ok")
+        self.assertEqual(on_one_terminal(lawful, "check")[1], [b"lawful", b""])
+
     def test_columns_and_colours(self) -> None:
         """Columns are of a terminal, in colours or not; colours elsewhere bring none."""
         bare = run(MEET, "trace").output

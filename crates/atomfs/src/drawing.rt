@@ -22,7 +22,7 @@ pub(crate) fn draw<R: Source, W: Sink>(
     requires writes { W.failures writer.old < 2 ^ 64 - 1 }
 {
     let drawn = match drawing {
-        Drawing::Picture(call) => draw_input(alloc, reader, writer, schedule, call),
+        Drawing::Picture(view) => draw_input(alloc, reader, writer, schedule, view),
         Drawing::Page => draw_page(alloc, reader, writer, schedule),
     };
     match drawn {

@@ -2,22 +2,23 @@
 
 ghost use Rattle.std.specs.Prelude.{◌-◌, ◌<◌, ◌^◌};
 
-use crate::drawing::draw;
 use fs_arguments::{Drawing, Histories as Asked, Recorded};
 use fs_command::{
     Kept, Line, Screen, report_draw, report_file, report_learned, report_linearize, report_many,
     report_minimized, report_table, report_unopened, report_unwritten,
 };
 use fs_dialects::{Dialect, known_table, read_dialect};
+use fs_draw::{DrawFault, View, draw_input};
 use fs_io::Made;
 use fs_minimal::{Minimized, minimize_history};
+use fs_page::noted_page;
 use fs_recorded::{
-    Failing, Histories, Linearized, Untold, learn_histories, linearize_bytes, linearize_history,
-    linearize_many,
+    Failing, Histories, Linearized, Outcome, Untold, learn_histories, linearize_bytes,
+    linearize_history, linearize_many,
 };
-use fs_sched::{Device, RunFault, Schedule, Sink, Source};
+use fs_sched::{Device, RunFault, Schedule, Sink, Source, write_text};
 use fs_start::whole_text;
-use std::alloc::Global;
+use std::alloc::{AllocError, Global};
 use std::fs::{File, create_dir_all};
 use std::io::{self, Write};
 use std::rt::Files;
@@ -222,6 +223,56 @@ fn report_undrawn<E: Write>(errors: &mut E, line: &[u8]) {
     let _ = errors.write_all(line);
 }
 
+/// The notes of a page on what is found of a history: whether an order explains it; and if none does what its last call could have
+/// replied, by the lines after the first one that say why.
+fn notes_of(alloc: Global, found: &Linearized) -> Result<Vec<u8>, AllocError> {
+    if let Outcome::Lawful = found.outcome {
+        return Vec::from_slice(alloc, b"# history lawful\n");
+    }
+    let mut notes = Vec::from_slice(alloc, b"# history none\n")?;
+    let mut is_first = true;
+    for line in found.reason.split(|byte| *byte == b'\n') {
+        if !is_first {
+            notes.extend_from_slice(b"# reply ")?;
+            notes.extend_from_slice(line)?;
+            notes.push(b'\n')?;
+        }
+        is_first = false;
+    }
+    Ok(notes)
+}
+
+/// Writes the page of the journal that is found of a history.
+fn write_page<W: Sink>(
+    alloc: Global,
+    writer: &mut W,
+    journal: &[u8],
+    found: &Linearized,
+) -> Result<(), DrawFault>
+    requires writes { W.failures writer.old < 2 ^ 64 - 1 }
+{
+    let Ok(notes) = notes_of(alloc, found) else {
+        return Err(DrawFault::Run(RunFault::OutOfMemory));
+    };
+    let page = noted_page(alloc, journal, &notes)?;
+    write_text(writer, page.text.as_slice())?;
+    Ok(())
+}
+
+/// Writes the picture of the journal that is found of a history.
+fn write_picture<W: Sink>(
+    alloc: Global,
+    writer: &mut W,
+    journal: &[u8],
+    view: View,
+) -> Result<(), DrawFault>
+    requires writes { W.failures writer.old < 2 ^ 64 - 1 }
+{
+    let mut reader = Device::new(journal);
+    draw_input(alloc, &mut reader, writer, Schedule::Given, view)?;
+    Ok(())
+}
+
 /// Draws what is found of a history: the lawful journal, or the journal up to the return that nothing explains.
 fn draw_found<R: Source, W: Sink, E: Write>(
     alloc: Global,
@@ -239,15 +290,18 @@ fn draw_found<R: Source, W: Sink, E: Write>(
         Ok(made) => made,
         Err(fault) => return report_linearize(errors, &reader.seen, Err(fault)),
     };
-    if is_journal(&text) {
-        let mut front = Device::new(text.as_slice());
-        if let Err(fault) = draw(alloc, &mut front, writer, Schedule::Given, drawing) {
-            return report_draw(errors, &reader.seen, Err(fault));
-        }
-    } else {
+    if !is_journal(&text) {
         report_undrawn(errors, &text);
+        return report_linearize(errors, &reader.seen, Ok(end));
     }
-    report_linearize(errors, &reader.seen, Ok(end))
+    let drawn = match drawing {
+        Drawing::Picture(view) => write_picture(alloc, writer, &text, view),
+        Drawing::Page => write_page(alloc, writer, &text, &end),
+    };
+    match drawn {
+        Ok(()) => report_linearize(errors, &reader.seen, Ok(end)),
+        Err(fault) => report_draw(errors, &reader.seen, Err(fault)),
+    }
 }
 
 /// Does what is asked of histories, and answers the exit status.

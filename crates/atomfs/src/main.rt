@@ -19,7 +19,7 @@ mod terminals;
 
 use crate::drawing::{draw, refused_terminal};
 use crate::linearizing::linearize;
-use crate::terminals::{Terminals, has_no_color, is_in_colours, layout_of};
+use crate::terminals::{Terminals, excerpts_of, has_no_color, is_in_colours, layout_of};
 use fs_arguments::{Asserted, Format, Invocation, Subcommand, parse};
 use fs_colours::Painting;
 use fs_command::{
@@ -28,7 +28,7 @@ use fs_command::{
     report_shrink, report_trace, report_tree, report_unopened, report_words, status_of_run,
     status_of_unreadable_args, status_of_usage, status_of_verdict, tell_reading,
 };
-use fs_entries::trace_input;
+use fs_entries::{Notation, trace_input};
 use fs_explain::{Topic, explanation};
 use fs_find::{Clauses, FindFault, find_seed, read_what};
 use fs_litmus::{Assertion, assert_outcomes, read_assertion};
@@ -43,7 +43,7 @@ use fs_share::Open;
 use fs_shrink::shrink_script;
 use fs_start::{StartFault, run_from, whole_text};
 use fs_threads::{ThreadsFault, Watch, run_threads};
-use fs_trace::{ScheduleFault, schedule_script, trace_objects};
+use fs_trace::{ScheduleFault, schedule_script};
 use std::alloc::Global;
 use std::convert::AsStr;
 use std::fs::File;
@@ -89,20 +89,11 @@ fn run_at<R: Source, W: Sink, P: Witness>(
     }
 }
 
-/// Writes what each event of a script's run did, as objects, and answers the status.
-fn events<R: Source, W: Sink>(
-    alloc: Global,
-    reader: &mut R,
-    writer: &mut W,
-    schedule: Schedule,
-    every: bool,
-) -> Result<u8, RunFault>
-    requires reads { R.failures reader.old < 2 ^ 64 - 1 }
-    requires writes { W.failures writer.old < 2 ^ 64 - 1 }
-{
-    match trace_objects(alloc, reader, writer, schedule, every) {
-        Ok(end) => Ok(status_of_run(&end)),
-        Err(fault) => Err(fault),
+/// How a trace is written.
+fn notation_of(format: Format) -> Notation {
+    match format {
+        Format::Text => Notation::Words,
+        Format::Json => Notation::Objects,
     }
 }
 
@@ -626,11 +617,9 @@ fn perform<T: Threads + Wait + Clock + Files + Sync, R: Source, W: Sink, E: Writ
             );
         }
         Subcommand::Explain(first, second) => explain(alloc, writer, *first, *second),
-        Subcommand::Trace(order, every, Format::Json) => {
-            events(alloc, reader, writer, *order, *every)
-        }
-        Subcommand::Trace(order, every, Format::Text) => {
-            let outcome = trace_input(alloc, reader, writer, *order, *every);
+        Subcommand::Trace(order, every, format) => {
+            let notation = notation_of(*format);
+            let outcome = trace_input(alloc, reader, writer, *order, *every, notation);
             return report_trace(errors, &reader.seen, outcome);
         }
         Subcommand::Draw(order, drawing) => {
@@ -706,6 +695,7 @@ where
         Err(status) => return status,
     };
     let mut reader = Kept::new(alloc, Device::new(input));
+    reader.seen.excerpts = excerpts_of(&asked, terminals, screen);
     let layout = layout_of(&asked, terminals);
     let is_painted = is_in_colours(&asked, terminals);
     let painting = Painting::new(alloc, Device::new(output), layout, is_painted);

@@ -2,6 +2,7 @@
 
 use fs_arguments::{Format, Invocation, Subcommand};
 use fs_colours::Layout;
+use fs_command::{Excerpts, Screen};
 use std::env::VarError;
 
 /// Which streams are terminals, and whether the environment asks for no colours.
@@ -49,5 +50,21 @@ pub(crate) fn layout_of(asked: &Invocation<'_>, terminals: Terminals) -> Layout 
             Layout::Table
         }
         _ => Layout::Plain,
+    }
+}
+
+/// How the line of an entry at fault is shown: where words are read on a terminal, and messages on one too.
+pub(crate) fn excerpts_of(
+    asked: &Invocation<'_>,
+    terminals: Terminals,
+    screen: &Screen,
+) -> Excerpts {
+    if !terminals.output || !screen.is_terminal() || !is_in_words(&asked.command) {
+        return Excerpts::Off;
+    }
+    if is_in_colours(asked, terminals) {
+        Excerpts::Red
+    } else {
+        Excerpts::Plain
     }
 }

@@ -1,2 +1,3 @@
 mod Somes
 pub mod Saying
+mod Viewing

@@ -8,6 +8,7 @@ use Rattle.clap.specs.declared.parser.matches.MatchedArg.{MatchedArg}
 use Rattle.fs_sched.specs.declared.seeding.TheConstants.{SEED_LIMIT, RUN_LIMIT}
 use Rattle.fs_outcomes.specs.declared.running.TheConstants.{OUTCOME_LIMIT}
 use Rattle.fs_outcomes.specs.declared.lines.Form.{Form}
+use Rattle.fs_draw.specs.declared.view.View.{View}
 use Rattle.fs_find.specs.declared.finding.TheConstants.{SEARCH_LIMIT}
 use Rattle.fs_recorded.specs.declared.linearizing.TheConstants.{CONFIGURATION_LIMIT}
 use Rattle.fs_replay.specs.declared.asking.Asked.{Asked}
@@ -18,6 +19,8 @@ use Rattle.fs_litmus.specs.declared.assertion.Quantifier.TheVariants.{Never, Alw
 use Rattle.fs_arguments.specs.declared.subcommand.Asserted.{Asserted}
 use Rattle.fs_arguments.specs.declared.subcommand.Color.{Color}
 use Rattle.fs_arguments.specs.declared.subcommand.Color.TheVariants as color
+use Rattle.fs_arguments.specs.declared.subcommand.Drawing.{Drawing}
+use Rattle.fs_arguments.specs.declared.subcommand.Drawing.TheVariants.{Picture, Page}
 use Rattle.fs_arguments.specs.declared.subcommand.Format.{Format}
 use Rattle.fs_arguments.specs.declared.subcommand.Format.TheVariants.{Text, Json}
 use Rattle.fs_arguments.specs.declared.subcommand.Subcommand.{Subcommand}
@@ -67,6 +70,11 @@ pub record IsNumberOf (found : Found) (id : List ℕ) (n : ℕ) : Type 0 where
   pub value : digits_value 10 (without_leading_plus text) ≡ n
   pub fits : n < 2 ^ 64
 
+-- the number that an option gives, or that it is not there
+abbrev pub GivesNumber : Found → List ℕ → Option ℕ → Type 0
+GivesNumber found id (Some n) = IsNumberOf found id n
+GivesNumber found id None = one_text found id ≡ None
+
 -- the numbers of drawn runs that options give, within their ranges
 pub record AreNumbersOf (found : Found) (most seed runs : ℕ) : Type 0 where
   pub first : IsNumberOf found (codes "seed") seed
@@ -83,6 +91,21 @@ IsFlagOf found id given = one_text found id ≡ Some (if given then codes "true"
 abbrev pub IsFormatOf : Found → Format → Type 0
 IsFormatOf found Text = IsFlagOf found (codes "json") false
 IsFormatOf found Json = IsFlagOf found (codes "json") true
+
+-- what a picture shows, and how
+pub record IsViewOf (found : Found) (view : View) : Type 0 where
+  pub around : GivesNumber found (codes "around") view.around
+  pub width : GivesNumber found (codes "width") view.width
+  pub folds : IsFlagOf found (codes "fold") view.folds
+
+-- a picture of all that a history has is drawn
+abbrev pub IsWholePicture : Drawing → Type 0
+IsWholePicture (Picture view) = view.around ≡ None
+IsWholePicture Page = ⊥
+
+abbrev pub IsSomePicture : Option Drawing → Type 0
+IsSomePicture (Some drawing) = IsWholePicture drawing
+IsSomePicture None = ⊥
 
 -- when there are colours, by the word that says so
 abbrev pub color_named : List ℕ → Color

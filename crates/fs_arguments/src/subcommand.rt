@@ -3,10 +3,11 @@
 ghost use Rattle.std.specs.Prelude.{◌≡◌, ◌≤◌, ◌++◌, ℕ, Bool, List, map, is_some, option_map, true, false, Some, None, IfSome, IfOk, OnOk, codes};
 ghost use Rattle.std.specs.Option.{ForSome};
 ghost use Rattle.clap.specs.Matches.{first_value, found_of, one_text, subcommand_name_of};
-ghost use Rattle.fs_arguments.specs.Commands.{AreNumbersOf, AsksBefore, AsksWho, IsFlagOf, IsFormOf, IsFormatOf, IsNumberOf, IsWithin, SearchesFor, ShrinksFor, TracesSo, all_said, color_named, is_on, name_of, said, said_by};
+ghost use Rattle.fs_arguments.specs.Commands.{AreNumbersOf, AsksBefore, AsksWho, IsFlagOf, IsFormOf, IsFormatOf, IsNumberOf, IsSomePicture, IsViewOf, IsWithin, SearchesFor, ShrinksFor, TracesSo, all_said, color_named, is_on, name_of, said, said_by};
 ghost use Rattle.fs_explain.specs.Topics.{word_of};
 
 use clap::ArgMatches;
+use fs_draw::View;
 use fs_explain::{Topic, topic_of};
 use fs_find::SEARCH_LIMIT;
 use fs_litmus::Quantifier;
@@ -68,8 +69,8 @@ pub enum Format {
 /// What is drawn.
 #[derive(Clone, Copy, Debug, PartialEq, Eq)]
 pub enum Drawing {
-    /// A picture; and the number of the call around which is drawn, where that is not all.
-    Picture(Option<u64>),
+    /// A picture: what of it, and how.
+    Picture(View),
     /// A page that plays the whole.
     Page,
 }
@@ -379,18 +380,27 @@ fn trace_of<'a>(matches: &ArgMatches<'a>) -> Subcommand<'a>
     Subcommand::Trace(schedule_of(matches), every, format_of(matches))
 }
 
+/// What a picture shows, and how.
+fn view_of<'a>(matches: &ArgMatches<'a>) -> View
+    ensures { (view : View) → IsViewOf (found_of matches.now) view → result ≡ view }
+{
+    View {
+        around: number_given(matches, "around"),
+        width: number_given(matches, "width"),
+        folds: flag_given(matches, "fold"),
+    }
+}
+
 /// What is drawn.
 fn drawing_of<'a>(matches: &ArgMatches<'a>) -> Drawing
     ensures page { IsFlagOf (found_of matches.now) (codes "html") true → result ≡ Drawing.Page }
-    ensures around { (n : ℕ) → IsFlagOf (found_of matches.now) (codes "html") false → IsNumberOf (found_of matches.now) (codes "around") n
-        → result ≡ Drawing.Picture (Some n) }
-    ensures whole { IsFlagOf (found_of matches.now) (codes "html") false → one_text (found_of matches.now) (codes "around") ≡ None → result ≡ Drawing.Picture None }
+    ensures picture { (view : View) → IsFlagOf (found_of matches.now) (codes "html") false → IsViewOf (found_of matches.now) view → result ≡ Drawing.Picture view }
 {
-    let around = number_given(matches, "around");
+    let view = view_of(matches);
     if flag_given(matches, "html") {
         Drawing::Page
     } else {
-        Drawing::Picture(around)
+        Drawing::Picture(view)
     }
 }
 
@@ -420,14 +430,14 @@ fn histories_of<'a>(matches: &ArgMatches<'a>) -> Histories
 /// What is drawn of a history.
 fn drawn_of<'a>(matches: &ArgMatches<'a>) -> Option<Drawing>
     ensures page { one_text (found_of matches.now) (codes "html") ≡ Some (codes "true") → result ≡ Some Drawing.Page }
-    ensures picture { one_text (found_of matches.now) (codes "html") ≡ Some (codes "false") → one_text (found_of matches.now) (codes "draw") ≡ Some (codes "true") → result ≡ Some (Drawing.Picture None) }
+    ensures picture { one_text (found_of matches.now) (codes "html") ≡ Some (codes "false") → one_text (found_of matches.now) (codes "draw") ≡ Some (codes "true") → IsSomePicture result }
     ensures none { one_text (found_of matches.now) (codes "html") ≡ Some (codes "false") → one_text (found_of matches.now) (codes "draw") ≡ Some (codes "false") → result ≡ None }
 {
     if matches.get_flag("html") {
         return Some(Drawing::Page);
     }
     if matches.get_flag("draw") {
-        return Some(Drawing::Picture(None));
+        return Some(Drawing::Picture(View::of(None)));
     }
     None
 }

@@ -26,15 +26,36 @@ const REST: &[u8] = b"...";
 
 const DIGITS: &[u8; 16] = b"0123456789abcdef";
 
+/// So many lines are shown before the line of an entry at fault.
+const LINES_BEFORE: u64 = 3;
+
+/// How red words begin on a terminal, and how they end.
+const RED: &[u8] = b"\x1b[31m";
+
+const PLAIN: &[u8] = b"\x1b[0m";
+
 /// So many bytes of a text are kept, from its first on: to keep more would cost those whose texts have no fault.
 const SEEN_BYTES: usize = 65_536;
 
-/// What was read of a text, as far as it is kept.
+/// How the line of an entry at fault is shown, with the lines before it.
+#[derive(Clone, Copy, Debug, PartialEq, Eq)]
+pub enum Excerpts {
+    /// Not at all.
+    Off,
+    /// With a mark.
+    Plain,
+    /// With a mark, and in red.
+    Red,
+}
+
+/// What was read of a text, as far as it is kept, and how entries at fault are shown in it.
 #[derive(Drop)]
 pub struct Seen {
     alloc: Global,
     text: Vec<u8>,
     is_full: bool,
+    /// How entries at fault are shown.
+    pub excerpts: Excerpts,
 }
 
 impl Seen {
@@ -44,6 +65,7 @@ impl Seen {
             alloc,
             text: Vec::new(alloc),
             is_full: false,
+            excerpts: Excerpts::Off,
         }
     }
 
@@ -91,6 +113,49 @@ impl Seen {
         }
     }
 
+    /// The line that a message names at its front, with the lines before it, as far as they were kept. Nothing where no line is named
+    /// or none is shown; without memory it shows nothing.
+    pub(crate) fn excerpt(&self, message: &[u8]) -> Vec<u8> {
+        match self.lines_up_to(message) {
+            Ok(lines) => lines,
+            Err(_) => Vec::new(self.alloc),
+        }
+    }
+
+    fn lines_up_to(&self, message: &[u8]) -> Result<Vec<u8>, AllocError> {
+        let mut lines = Vec::new(self.alloc);
+        let (Some(last), false) = (line_named(message), self.excerpts == Excerpts::Off) else {
+            return Ok(lines);
+        };
+        if self.line(last).is_none() {
+            return Ok(lines);
+        }
+        for number in last.saturating_sub(LINES_BEFORE).max(1)..last {
+            if let Some(line) = self.line(number) {
+                push_numbered(self.alloc, b"  ", number, line, &mut lines)?;
+            }
+        }
+        if let Some(line) = self.line(last) {
+            self.push_marked(last, line, &mut lines)?;
+        }
+        Ok(lines)
+    }
+
+    /// Adds the line of an entry at fault.
+    fn push_marked(&self, number: u64, line: &[u8], lines: &mut Vec<u8>) -> Result<(), AllocError> {
+        let is_red = self.excerpts == Excerpts::Red;
+        if is_red {
+            lines.extend_from_slice(RED)?;
+        }
+        push_numbered(self.alloc, b"> ", number, line, lines)?;
+        if is_red {
+            let _ = lines.pop();
+            lines.extend_from_slice(PLAIN)?;
+            lines.push(b'\n')?;
+        }
+        Ok(())
+    }
+
     fn lines_about(&self, fault: ScriptFault, is_tree: bool) -> Result<Vec<u8>, AllocError> {
         let mut lines = Vec::with_capacity(self.alloc, MOST)?;
         if let Some(line) = self.line(fault.line) {
@@ -109,12 +174,48 @@ impl Seen {
     }
 }
 
-/// Adds a line as a terminal shows it: two spaces, and what fits into the columns.
+/// The number of the line that a message names at its front, as in `line 14: return 3 failed ENOENT`.
+fn line_named(message: &[u8]) -> Option<u64> {
+    let mut number = 0u64;
+    for byte in message.strip_prefix(b"line ".as_slice())? {
+        match byte {
+            b'0'..=b'9' => {
+                number = number
+                    .saturating_mul(10)
+                    .saturating_add((*byte - b'0') as u64);
+            }
+            b':' => return Some(number),
+            _ => return None,
+        }
+    }
+    None
+}
+
+/// Adds a line with its number, after a mark.
+fn push_numbered(
+    alloc: Global,
+    mark: &[u8],
+    number: u64,
+    line: &[u8],
+    lines: &mut Vec<u8>,
+) -> Result<(), AllocError> {
+    lines.extend_from_slice(mark)?;
+    let number = format!(in alloc; "{number:>6} | ")?;
+    lines.extend_from_slice(number.as_bytes())?;
+    push_fitted(line, lines)
+}
+
+/// Adds a line as a terminal shows it, after two spaces.
 fn push_shown(line: &[u8], lines: &mut Vec<u8>) -> Result<(), AllocError> {
     if line.is_empty() {
         return Ok(());
     }
     lines.extend_from_slice(b"  ")?;
+    push_fitted(line, lines)
+}
+
+/// Adds what of a line fits into the columns.
+fn push_fitted(line: &[u8], lines: &mut Vec<u8>) -> Result<(), AllocError> {
     let from = lines.len();
     for byte in line {
         if lines.len().saturating_sub(from) > WIDTH {

@@ -84,6 +84,12 @@ fn tell<E: Write>(errors: &mut E, reason: &[u8]) {
     }
 }
 
+/// Writes what is wrong with an entry, after its line and those before it if these are shown.
+fn tell_entry<E: Write>(errors: &mut E, seen: &Seen, reason: &[u8]) {
+    let _ = errors.write_all(seen.excerpt(reason).as_slice());
+    tell(errors, reason);
+}
+
 /// The status that a check came to, or that of its fault, whose message is written. Of a journal that is not lawful the message
 /// says what is wrong.
 pub fn report_check<E: Write>(errors: &mut E, seen: &Seen, outcome: Result<Checked, RunFault>) -> u8
@@ -93,7 +99,7 @@ pub fn report_check<E: Write>(errors: &mut E, seen: &Seen, outcome: Result<Check
         Ok(checked) => checked,
         Err(fault) => return report(errors, seen, Err(ThreadsFault::Run(fault))),
     };
-    tell(errors, checked.reason.as_slice());
+    tell_entry(errors, seen, checked.reason.as_slice());
     status_of_verdict(checked.lawful)
 }
 
@@ -128,7 +134,7 @@ pub fn report_linearize<E: Write>(
         Ok(told) => told,
         Err(fault) => return report(errors, seen, Err(ThreadsFault::Run(fault))),
     };
-    tell(errors, told.reason.as_slice());
+    tell_entry(errors, seen, told.reason.as_slice());
     if let Outcome::Unknown = told.outcome {
         tell_limit(errors);
     }

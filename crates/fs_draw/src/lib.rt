@@ -17,6 +17,8 @@ mod news;
 mod picture;
 mod running;
 mod tree_text;
+mod view;
 
 pub use fault::DrawFault;
 pub use running::draw_input;
+pub use view::View;

@@ -12,12 +12,12 @@ use fs_layout::{Frame, Places, ROW_GAP, Rows, add, bands_of, frame_of, heading_w
 use fs_scene::Scene;
 use std::alloc::{AllocError, Global};
 
-/// The least width of a picture.
+/// The least width of a picture, if none is asked for.
 const LEAST_WIDTH: u64 = 560;
 
-/// The frame of a picture: of one row it is as wide as what stands in it.
-fn fitted(frame: Frame, places: &Places, heading: usize) -> Frame {
-    if places.rows > 1 {
+/// The frame of a picture: of one row it is as wide as what stands in it, if no width is asked for.
+fn fitted(frame: Frame, places: &Places, heading: usize, asked: Option<u64>) -> Frame {
+    if places.rows > 1 || asked.is_some() {
         return frame;
     }
     let content = add(places.end, 34).max(add(heading_width(heading), 30));
@@ -52,11 +52,11 @@ struct Middle {
     body: Vec<u8>,
 }
 
-fn middle_of(alloc: Global, scene: &Scene) -> Result<Middle, AllocError> {
+fn middle_of(alloc: Global, scene: &Scene, width: Option<u64>) -> Result<Middle, AllocError> {
     let heading = heading_of(alloc, scene)?;
-    let wide = frame_of(scene.lanes.as_slice());
+    let wide = frame_of(scene.lanes.as_slice(), width);
     let places = places_of(alloc, scene, wide)?;
-    let frame = fitted(wide, &places, heading.news.len());
+    let frame = fitted(wide, &places, heading.news.len(), width);
     let canvas = Canvas {
         alloc,
         scene,
@@ -85,12 +85,16 @@ fn middle_of(alloc: Global, scene: &Scene) -> Result<Middle, AllocError> {
     })
 }
 
-/// The picture of a scene, as the text of an SVG file. It is a function of the scene. The head is made behind what stands below it,
-/// and then put before that, without a second text as long as all of it.
-pub(crate) fn picture_of(alloc: Global, scene: &Scene) -> Result<Vec<u8>, AllocError>
+/// The picture of a scene, as the text of an SVG file. It is a function of the scene, and of the width if one is asked for. The head is
+/// made behind what stands below it, and then put before that, without a second text as long as all of it.
+pub(crate) fn picture_of(
+    alloc: Global,
+    scene: &Scene,
+    width: Option<u64>,
+) -> Result<Vec<u8>, AllocError>
     ensures { IfOk result (λ text. IsPicture text.items) }
 {
-    let middle = middle_of(alloc, scene)?;
+    let middle = middle_of(alloc, scene, width)?;
     let mut text = middle.body;
     let below = text.len();
     text.extend_from_slice(b"<svg ")?;

@@ -11,18 +11,29 @@ ghost use Rattle.fs_draw.specs.code.Mades.{MakesPicture, out_of_memory};
 
 use crate::fault::DrawFault;
 use crate::picture::picture_of;
+use crate::view::View;
 use fs_io::{Made, Sink, Source, transform};
 use fs_journal::check_from;
-use fs_scene::{Scene, Strip, around, folded, scene_of_journal, scene_of_run};
+use fs_scene::{Scene, Strip, folded, scene_of_journal, scene_of_run};
 use fs_sched::{RunFault, Schedule, between, is_lawful, journal_in, script_in, watch};
 use fs_story::Teller;
-use std::alloc::{AllocError, Global};
+use std::alloc::Global;
 
 /// The fault where memory ran out.
 fn out_of_memory() -> DrawFault
     ensures { result ≡ out_of_memory }
 {
     DrawFault::Run(RunFault::OutOfMemory)
+}
+
+/// The fault where nothing is drawn although there is memory for it: no call has the number. Where no number is asked for, all is drawn.
+fn nothing_drawn(call: Option<u64>) -> DrawFault
+    ensures { (journal : Bool) (schedule : Schedule) (input : List ℕ) → IsFaultBy journal schedule call input result }
+{
+    match call {
+        Some(number) => DrawFault::NoCall(number),
+        None => out_of_memory(),
+    }
 }
 
 /// A scene, and whether what it shows went well.
@@ -32,10 +43,15 @@ struct Drawing {
     well: bool,
 }
 
-/// The scene of a script's run, and whether each call returned.
-fn of_script(alloc: Global, text: &[u8], schedule: Schedule) -> Result<Drawing, DrawFault>
+/// The scene of a script's run, or of the part around a call; and whether each call returned.
+fn of_script(
+    alloc: Global,
+    text: &[u8],
+    schedule: Schedule,
+    call: Option<u64>,
+) -> Result<Drawing, DrawFault>
     ensures drawn { IfOk result (λ drawing. IsOfRun schedule text.now drawing.well) }
-    ensures fault { (call : Option ℕ) → IfErr result (IsFaultBy false schedule call text.now) }
+    ensures fault { IfErr result (IsFaultBy false schedule call text.now) }
 {
     let script = script_in(alloc, text)?;
     let Ok(strip) = Strip::new(alloc, &script) else {
@@ -48,8 +64,11 @@ fn of_script(alloc: Global, text: &[u8], schedule: Schedule) -> Result<Drawing, 
     let Ok(story) = teller.story() else {
         return Err(out_of_memory());
     };
-    let Ok(scene) = scene_of_run(alloc, &script, story) else {
+    let Ok(scene) = scene_of_run(alloc, &script, story, call) else {
         return Err(out_of_memory());
+    };
+    let Some(scene) = scene else {
+        return Err(nothing_drawn(call));
     };
     Ok(Drawing {
         scene,
@@ -57,17 +76,20 @@ fn of_script(alloc: Global, text: &[u8], schedule: Schedule) -> Result<Drawing, 
     })
 }
 
-/// The scene of a journal, and whether that is lawful.
-fn of_journal(alloc: Global, text: &[u8]) -> Result<Drawing, DrawFault>
+/// The scene of a journal, or of the part around a call; and whether the journal is lawful.
+fn of_journal(alloc: Global, text: &[u8], call: Option<u64>) -> Result<Drawing, DrawFault>
     ensures drawn { IfOk result (λ drawing. IsOfJournal text.now drawing.well) }
-    ensures fault { (schedule : Schedule) (call : Option ℕ) → IfErr result (IsFaultBy true schedule call text.now) }
+    ensures fault { (schedule : Schedule) → IfErr result (IsFaultBy true schedule call text.now) }
 {
     let journal = journal_in(alloc, text)?;
     let Ok(verdict) = check_from(alloc, &journal.start, journal.entries.as_slice()) else {
         return Err(out_of_memory());
     };
-    let Ok(scene) = scene_of_journal(alloc, &journal, &verdict, text) else {
+    let Ok(scene) = scene_of_journal(alloc, &journal, &verdict, text, call) else {
         return Err(out_of_memory());
+    };
+    let Some(scene) = scene else {
+        return Err(nothing_drawn(call));
     };
     Ok(Drawing {
         scene,
@@ -82,29 +104,20 @@ fn is_journal(text: &[u8]) -> bool
     text.starts_with(b"atomfs-journal")
 }
 
-/// The scene of a text, and whether what it shows went well.
-fn drawing_of(alloc: Global, text: &[u8], schedule: Schedule) -> Result<Drawing, DrawFault>
+/// The scene of a text, or of the part around a call; and whether what the whole shows went well.
+fn drawing_of(
+    alloc: Global,
+    text: &[u8],
+    schedule: Schedule,
+    call: Option<u64>,
+) -> Result<Drawing, DrawFault>
     ensures drawn { IfOk result (λ drawing. IsOf (is_journal text.now) schedule text.now drawing.well) }
-    ensures fault { (call : Option ℕ) → IfErr result (IsFaultOfPicture schedule call text.now) }
+    ensures fault { IfErr result (IsFaultOfPicture schedule call text.now) }
 {
     if is_journal(text) {
-        of_journal(alloc, text)
+        of_journal(alloc, text, call)
     } else {
-        of_script(alloc, text, schedule)
-    }
-}
-
-/// The part of a scene around a call, or the whole.
-fn part_of(alloc: Global, scene: Scene, call: Option<u64>) -> Result<Scene, DrawFault>
-    ensures { (schedule : Schedule) (input : List ℕ) → IfErr result (IsFaultOfPicture schedule call input) }
-{
-    let Some(number) = call else {
-        return Ok(scene);
-    };
-    match around(alloc, scene, number) {
-        Ok(Some(part)) => Ok(part),
-        Ok(None) => Err(DrawFault::NoCall(number)),
-        Err(_) => Err(out_of_memory()),
+        of_script(alloc, text, schedule, call)
     }
 }
 
@@ -113,25 +126,24 @@ fn draw_text(
     alloc: Global,
     text: Vec<u8>,
     schedule: Schedule,
-    call: Option<u64>,
+    view: View,
 ) -> Result<Made<bool>, DrawFault>
-    ensures { MakesPicture schedule call text.items result }
+    ensures { MakesPicture schedule view.around text.items result }
 {
-    let drawing = drawing_of(alloc, text.as_slice(), schedule)?;
+    let drawing = drawing_of(alloc, text.as_slice(), schedule, view.around)?;
     drop(text);
     let well = drawing.well;
-    let part = part_of(alloc, drawing.scene, call)?;
-    let Ok(part) = folded(alloc, part) else {
+    let Ok(scene) = folded(alloc, drawing.scene, view.folds) else {
         return Err(out_of_memory());
     };
-    match picture_of(alloc, &part) {
+    match picture_of(alloc, &scene, view.width) {
         Ok(text) => Ok(Made { text, end: well }),
         Err(_) => Err(out_of_memory()),
     }
 }
 
 /// Reads a script to its end, runs it by a schedule and draws its run; or reads a journal and draws that, whatever the schedule.
-/// Where a call's number is given, it and those that overlap it are drawn alone. The picture is an SVG file, made before its
+/// Where the view has a call's number, that call and those that overlap it are drawn alone. The picture is an SVG file, made before its
 /// first byte is written, and a function of what is read and asked for. The answer is whether each call of the script returned,
 /// or the journal is lawful.
 pub fn draw_input<R: Source, W: Sink>(
@@ -139,7 +151,7 @@ pub fn draw_input<R: Source, W: Sink>(
     reader: &mut R,
     writer: &mut W,
     schedule: Schedule,
-    call: Option<u64>,
+    view: View,
 ) -> Result<bool, DrawFault>
     requires reads { R.failures reader.old < 2 ^ 64 - 1 }
     requires writes { W.failures writer.old < 2 ^ 64 - 1 }
@@ -152,7 +164,7 @@ pub fn draw_input<R: Source, W: Sink>(
     ensures input { (f : ScriptFault) → result ≡ Err (DrawFault.Run (RunFault.Input f))
         → IfSome (R.remaining reader.old) (λ input. HasFault input f) }
     ensures full { result ≢ Err (DrawFault.Run RunFault.Full) }
-    ensures no_call { (number : ℕ) → result ≡ Err (DrawFault.NoCall number) → call ≡ Some number }
+    ensures no_call { (number : ℕ) → result ≡ Err (DrawFault.NoCall number) → view.around ≡ Some number }
 
     // `UnderWay` comes where the script comes to a checkpoint while calls are under way; then it has no run.
     ensures under_way { (c : ℕ) → result ≡ Err (DrawFault.Run (RunFault.UnderWay c))
@@ -171,8 +183,8 @@ pub fn draw_input<R: Source, W: Sink>(
         reader,
         writer,
         |text| -> Result<Made<bool>, DrawFault>
-            ensures { MakesPicture schedule call text.items result }
-        { draw_text(alloc, text, schedule, call) },
+            ensures { MakesPicture schedule view.around text.items result }
+        { draw_text(alloc, text, schedule, view) },
     );
     match ended {
         Ok(well) => Ok(well),

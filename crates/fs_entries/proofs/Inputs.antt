@@ -16,15 +16,22 @@ use Rattle.fs_sched.proofs.RunLemmas.{script_short}
 use Rattle.fs_verdict.proofs.CheckLemmas.{verdict_short}
 use Rattle.fs_timeline.specs.Verdicts.{verdict}
 use Rattle.fs_replay.specs.Replays.{HasFault, HasFaultAs, IsUntold, is_journal}
-use Rattle.fs_entries.specs.Entries.{IsTraceAs, IsTraceOfInput}
+use Rattle.fs_sched.specs.declared.running.RunEnd.{RunEnd}
+use Rattle.fs_entries.specs.Entries.{IsTraceAs, IsTraceOfInput, IsWrittenRun}
+use Rattle.fs_entries.specs.declared.running.Notation.{Notation}
+use Rattle.fs_entries.specs.declared.running.Notation.TheVariants.{Words, Objects}
 
 -- what has a trace is not too long
-traced_short : (journal : Bool) (schedule : Schedule) (every : Bool) (text items out : List ℕ) (well : Bool) → text ≡ items → IsTraceAs journal schedule every text well out → is_too_long items ≡ false
-traced_short true schedule every text items out well e is = verdict_short text items (verdict is.0 is.1) e (ap judged is.3)
-traced_short false schedule every text items out well e is = script_short text items is.1.0 e is.1.1
+run_short : (notation : Notation) (schedule : Schedule) (every : Bool) (text items out : List ℕ) (end : RunEnd) → text ≡ items → IsWrittenRun notation schedule every text end out → is_too_long items ≡ false
+run_short Words schedule every text items out end e is = script_short text items is.0 e is.1
+run_short Objects schedule every text items out end e is = script_short text items is.0 e is.1
 
-pub trace_short : (schedule : Schedule) (every : Bool) (text items out : List ℕ) (well : Bool) → text ≡ items → IsTraceOfInput schedule every text well out → is_too_long items ≡ false
-trace_short schedule every text items out well e is = traced_short (is_journal text) schedule every text items out well e is
+traced_short : (notation : Notation) (journal : Bool) (schedule : Schedule) (every : Bool) (text items out : List ℕ) (well : Bool) → text ≡ items → IsTraceAs notation journal schedule every text well out → is_too_long items ≡ false
+traced_short notation true schedule every text items out well e is = verdict_short text items (verdict is.0 is.1) e (ap judged is.3)
+traced_short notation false schedule every text items out well e is = run_short notation schedule every text items out is.0 e is.1
+
+pub trace_short : (notation : Notation) (schedule : Schedule) (every : Bool) (text items out : List ℕ) (well : Bool) → text ≡ items → IsTraceOfInput notation schedule every text well out → is_too_long items ≡ false
+trace_short notation schedule every text items out well e is = traced_short notation (is_journal text) schedule every text items out well e is
 
 -- what is too long is neither a journal nor a script, by one and the same fault
 long_fault : (journal : Bool) (text : List ℕ) (f : ScriptFault) → is_too_long text ≡ true → HasFaultAs journal text f → f ≡ fault_at 1 kind.TooLarge

@@ -1,2 +1,4 @@
 mod EntryLines
 mod Inputs
+mod Objecting
+mod Somes

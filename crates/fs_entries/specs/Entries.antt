@@ -1,5 +1,5 @@
 -- The trace of a journal, and that of an input.
-use Rattle.std.specs.Prelude.{ℕ, ◌≡◌, ◌+◌, ◌==◌, Bool, true, false, List, [], ◌∷◌, ◌++◌, Ok, codes, decimal}
+use Rattle.std.specs.Prelude.{ℕ, ◌≡◌, ◌==◌, Bool, true, false, List, ◌++◌, Ok, codes, decimal}
 use Rattle.std.specs.List.{join_with_byte}
 use Rattle.fs_calls.specs.Starts.{Start}
 use Rattle.fs_timeline.specs.Verdicts.{verdict}
@@ -12,10 +12,15 @@ use Rattle.fs_sched.specs.RunTexts.{end_line}
 use Rattle.fs_sched.specs.declared.running.RunEnd.{RunEnd}
 use Rattle.fs_sched.specs.declared.schedule.Schedule.{Schedule}
 use Rattle.fs_sched.specs.declared.schedule.Schedule.TheVariants.{Given}
+use Rattle.fs_trace.specs.Objects.{AreObjectsOf}
 use Rattle.fs_trace.specs.Traces.{IsTraceOf}
 use Rattle.fs_replay.specs.Commits.{front_by}
 use Rattle.fs_replay.specs.Replays.{is_journal, IsReplayOf}
 use Rattle.fs_replay.specs.declared.asking.Question.TheVariants.{Whole}
+use Rattle.fs_entries.specs.Each.{AreEach}
+use Rattle.fs_entries.specs.Objects.{AreObjectsBehind}
+use Rattle.fs_entries.specs.declared.running.Notation.{Notation}
+use Rattle.fs_entries.specs.declared.running.Notation.TheVariants.{Words, Objects}
 
 -- the line of an entry: its place, its call and the seat of that, what it does, and words behind that
 abbrev pub line_text : ℕ → List ℕ → ℕ → List ℕ → List ℕ → List ℕ
@@ -29,28 +34,37 @@ IsLine n (Return c r) line = (seat : List ℕ) × (line ≡ line_text n seat c (
 
 -- a line for each entry, from this place on
 abbrev pub AreLines : ℕ → List Entry → List ℕ → Type 0
-AreLines n [] text = text ≡ []
-AreLines n (e ∷ es) text = (line rest : List ℕ) × IsLine n e line × AreLines (n + 1) es rest × (text ≡ line ++ rest)
+AreLines n es text = AreEach IsLine n es text
 
 -- the trace of these entries, behind which this tree stands: a line for each, lines of the calls that are left, the tree, and the counts
 abbrev pub IsTraceBehind : List Entry → List ℕ → List ℕ → Type 0
 IsTraceBehind es tree text = (lines left : List ℕ) × AreLines 1 es lines × (text ≡ codes "atomfs-trace 2\n" ++ (lines ++ (left ++ (tree ++ end_line es))))
 
--- the trace of a journal: its entries, or those before its first fault, and the tree that these make; it went well where it is lawful
-abbrev pub IsTraceOfJournal : List ℕ → Bool → List ℕ → Type 0
-IsTraceOfJournal input well text =
-    (start : Start) × (es : List Entry) × (tree : List ℕ) × (journal_of input ≡ Ok (start, es)) × IsReplayOf Given input Whole well tree
-    × IsTraceBehind (front_by (verdict start es) es) tree text
+-- the same in words, or as objects
+abbrev pub IsWrittenBehind : Notation → List Entry → List ℕ → List ℕ → Type 0
+IsWrittenBehind Words es tree text = IsTraceBehind es tree text
+IsWrittenBehind Objects es tree text = AreObjectsBehind es tree text
 
--- the trace of a run went well where each call of the script returned
-abbrev pub IsTraceOfRun : Schedule → Bool → List ℕ → Bool → List ℕ → Type 0
-IsTraceOfRun schedule every input well text = (end : RunEnd) × IsTraceOf schedule every input end text × (well ≡ (end.returned == end.calls))
+-- the trace of a journal: its entries, or those before its first fault, and the tree that these make; it went well where it is lawful
+abbrev pub IsTraceOfJournal : Notation → List ℕ → Bool → List ℕ → Type 0
+IsTraceOfJournal notation input well text =
+    (start : Start) × (es : List Entry) × (tree : List ℕ) × (journal_of input ≡ Ok (start, es)) × IsReplayOf Given input Whole well tree
+    × IsWrittenBehind notation (front_by (verdict start es) es) tree text
+
+-- the trace of a run, in words or as objects
+abbrev pub IsWrittenRun : Notation → Schedule → Bool → List ℕ → RunEnd → List ℕ → Type 0
+IsWrittenRun Words schedule every input end text = IsTraceOf schedule every input end text
+IsWrittenRun Objects schedule every input end text = AreObjectsOf schedule every input end text
+
+-- it went well where each call of the script returned
+abbrev pub IsTraceOfRun : Notation → Schedule → Bool → List ℕ → Bool → List ℕ → Type 0
+IsTraceOfRun notation schedule every input well text = (end : RunEnd) × IsWrittenRun notation schedule every input end text × (well ≡ (end.returned == end.calls))
 
 -- that of an input, as a journal or as a script
-abbrev pub IsTraceAs : Bool → Schedule → Bool → List ℕ → Bool → List ℕ → Type 0
-IsTraceAs true schedule every input well text = IsTraceOfJournal input well text
-IsTraceAs false schedule every input well text = IsTraceOfRun schedule every input well text
+abbrev pub IsTraceAs : Notation → Bool → Schedule → Bool → List ℕ → Bool → List ℕ → Type 0
+IsTraceAs notation true schedule every input well text = IsTraceOfJournal notation input well text
+IsTraceAs notation false schedule every input well text = IsTraceOfRun notation schedule every input well text
 
 -- the trace of an input: of its journal, where it has the first bytes of one, and else of a run of its script
-abbrev pub IsTraceOfInput : Schedule → Bool → List ℕ → Bool → List ℕ → Type 0
-IsTraceOfInput schedule every input well text = IsTraceAs (is_journal input) schedule every input well text
+abbrev pub IsTraceOfInput : Notation → Schedule → Bool → List ℕ → Bool → List ℕ → Type 0
+IsTraceOfInput notation schedule every input well text = IsTraceAs notation (is_journal input) schedule every input well text

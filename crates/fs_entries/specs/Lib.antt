@@ -1,2 +1,4 @@
+pub mod Each
 pub mod Entries
+pub mod Objects
 pub mod code

@@ -1,88 +1,27 @@
 //! A line for each entry of a journal.
 
-ghost use Rattle.std.specs.Prelude.{◌≡◌, ◌++◌, ◌+◌, ◌-◌, ◌<◌, ◌^◌, OnOk, IfOk, decimal};
-ghost use Rattle.std.specs.List.{join_with_byte};
-ghost use Rattle.fs_text.specs.Calls.{call_words};
-ghost use Rattle.fs_text.specs.Journal.{reply_words};
+ghost use Rattle.std.specs.Prelude.{◌≡◌, ◌++◌, ◌+◌, ◌-◌, ◌<◌, ◌^◌, OnOk, IfOk};
 ghost use Rattle.fs_entries.specs.Entries.{line_text, AreLines};
 ghost use Rattle.fs_entries.specs.code.Mades.{AddsLine};
 
-use crate::effect::effect_of;
+use crate::past::{Past, call_text, number_text, reply_text};
 use fs_calls::{Call, Reply};
 use fs_names::{CallNo, SeatNo};
 use fs_seq::SeqTree;
-use fs_text::{Addition, write_call, write_reply};
+use fs_text::Addition;
 use fs_timeline::Entry;
 use std::alloc::{AllocError, Global};
-use std::collections::BTreeMap;
 
-/// Where the calls of a journal begin, by their numbers, and the tree that the commits so far made.
-#[derive(Drop)]
-struct Past {
-    begun: BTreeMap<u64, usize>,
-    tree: SeqTree,
-}
-
-/// A number in words.
-fn number_text(alloc: Global, number: u64) -> Result<Vec<u8>, AllocError>
-    ensures { IfOk result (λ text. text.items ≡ decimal number) }
-{
-    let mut text = Addition::new(Vec::new(alloc));
-    text.push_number(number)?;
-    Ok(text.kept())
-}
-
-/// A call in words.
-fn call_text(alloc: Global, call: &Call) -> Result<Vec<u8>, AllocError>
-    ensures { IfOk result (λ text. text.items ≡ join_with_byte 32 (call_words call.now)) }
-{
-    let mut text = Vec::new(alloc);
-    write_call(alloc, call, &mut text)?;
-    Ok(text)
-}
-
-/// A reply in words.
-fn reply_text(alloc: Global, reply: &Reply) -> Result<Vec<u8>, AllocError>
-    ensures { IfOk result (λ text. text.items ≡ join_with_byte 32 (reply_words reply.now)) }
-{
-    let mut text = Vec::new(alloc);
-    write_reply(alloc, reply, &mut text)?;
-    Ok(text)
-}
-
-impl Past {
-    /// The begin of a call, among the entries; none where it has not begun.
-    fn begin_of<'a>(&self, entries: &'a [Entry], number: CallNo) -> Option<&'a Entry> {
-        match self.begun.get(&number.get()) {
-            Some(at) => entries.get(*at),
-            None => None,
-        }
-    }
-
-    /// The seat of a call; no bytes where it has not begun.
-    fn seat_text(
-        &self,
-        alloc: Global,
-        entries: &[Entry],
-        number: CallNo,
-    ) -> Result<Vec<u8>, AllocError> {
-        match self.begin_of(entries, number) {
-            Some(Entry::Begin(_, seat, _)) => number_text(alloc, seat.get()),
-            _ => Ok(Vec::new(alloc)),
-        }
-    }
-
-    /// What the commit of a call changes, which is done; no bytes where it has not begun.
-    fn commit(
-        &mut self,
-        alloc: Global,
-        entries: &[Entry],
-        number: CallNo,
-    ) -> Result<Vec<u8>, AllocError> {
-        match self.begin_of(entries, number) {
-            Some(Entry::Begin(_, _, call)) => effect_of(alloc, &mut self.tree, call),
-            _ => Ok(Vec::new(alloc)),
-        }
+/// The seat of a call in words; no bytes where the call has not begun.
+fn seat_text(
+    alloc: Global,
+    past: &Past,
+    entries: &[Entry],
+    number: CallNo,
+) -> Result<Vec<u8>, AllocError> {
+    match past.seat_of(entries, number) {
+        Some(seat) => number_text(alloc, seat.get()),
+        None => Ok(Vec::new(alloc)),
     }
 }
 
@@ -138,9 +77,10 @@ fn push_commit(
     ensures ok { OnOk result (AddsLine (at + 1) (Entry.Commit number) text.old.added text.new.added) }
     ensures before { text.new.before ≡ text.old.before }
 {
-    let who = past.seat_text(alloc, entries, number)?;
-    let effect = past.commit(alloc, entries, number)?;
-    push_line(at + 1, &who, number, b" commits, ", &effect, text)
+    let who = seat_text(alloc, past, entries, number)?;
+    let effect = past.commit(entries, number)?;
+    let words = effect.words(alloc)?;
+    push_line(at + 1, &who, number, b" commits, ", &words, text)
 }
 
 /// Adds the line of a return, which comes after so many entries.
@@ -157,7 +97,7 @@ fn push_return(
     ensures ok { OnOk result (AddsLine (at + 1) (Entry.Return number reply.now) text.old.added text.new.added) }
     ensures before { text.new.before ≡ text.old.before }
 {
-    let who = past.seat_text(alloc, entries, number)?;
+    let who = seat_text(alloc, past, entries, number)?;
     let words = reply_text(alloc, reply)?;
     push_line(at + 1, &who, number, b" returns ", &words, text)
 }
@@ -177,7 +117,7 @@ fn push_entry(
 {
     match entry {
         Entry::Begin(number, seat, call) => {
-            past.begun.insert(number.get(), at)?;
+            past.begin(*number, at)?;
             push_begin(alloc, at, *number, *seat, call, text)
         }
         Entry::Commit(number) => push_commit(alloc, past, entries, at, *number, text),
@@ -195,10 +135,7 @@ pub(crate) fn lines_of(
 ) -> Result<Vec<u8>, AllocError>
     ensures { IfOk result (λ text. AreLines 1 entries.now text.items) }
 {
-    let mut past = Past {
-        begun: BTreeMap::new(alloc),
-        tree: start,
-    };
+    let mut past = Past::new(alloc, start);
     let mut text = Addition::new(Vec::new(alloc));
     for at in 0..entries.len() {
         push_entry(alloc, &mut past, entries, at, &entries[at], &mut text)?;

@@ -110,17 +110,24 @@ impl Frame {
     }
 }
 
-/// The frame of lanes with these names.
-pub fn frame_of(lanes: &[Vec<u8>]) -> Frame {
+/// The width of a frame for so many lanes, if none is asked for.
+fn width_for(lanes: usize) -> u64 {
+    let least = 1_280;
+    if lanes > 16 {
+        return least.max((lanes as u64).saturating_mul(45));
+    }
+    least
+}
+
+/// The frame of lanes with these names, of this width if one is asked for.
+pub fn frame_of(lanes: &[Vec<u8>], asked: Option<u64>) -> Frame {
     let mut widest = LEAST_NAME;
     for name in lanes {
         widest = widest.max(name.len());
     }
-    let least = 1_280;
-    let width = if lanes.len() > 16 {
-        least.max((lanes.len() as u64).saturating_mul(45))
-    } else {
-        least
+    let width = match asked {
+        Some(width) => width,
+        None => width_for(lanes.len()),
     };
     Frame {
         left: add(NAME_ROOM, label_width(widest)),

@@ -5,8 +5,9 @@
 //! run of the script that was read, or the journal with its verdict before it. A browser reads exactly this text in the page, so no name
 //! in it is ever a tag. The picture is that of `fs_draw`, and the trace that of `fs_trace`.
 //!
-//! Enter at `draw_page`, or in memory at `page_bytes`. The definitions are in `specs/`: `Html`, what a browser reads of a text, and
-//! `Pages`. `specs/code/` ties the code to them, and changes no meaning. `docs/PLAYER.md` says what the page shows.
+//! Enter at `draw_page`, or in memory at `page_bytes`, and at `noted_page` for a journal with notes on it. The definitions are in
+//! `specs/`: `Html`, what a browser reads of a text, and `Pages`. `specs/code/` ties the code to them, and changes no meaning.
+//! `docs/PLAYER.md` says what the page shows.
 #![tactic(auto)]
 
 mod marking;
@@ -14,4 +15,4 @@ mod page;
 mod running;
 pub mod template;
 
-pub use running::{draw_page, page_bytes};
+pub use running::{draw_page, noted_page, page_bytes};

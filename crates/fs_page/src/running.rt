@@ -9,11 +9,11 @@ ghost use Rattle.fs_sched.specs.Devices.{KeepsDevices, WritesBeginning};
 ghost use Rattle.fs_sched.specs.Runs.{ReachesStop};
 ghost use Rattle.fs_draw.specs.Faults.{HasFault, IsFaultBy, IsFaultOfPicture};
 ghost use Rattle.fs_draw.specs.Pictures.{IsPictureOf, is_journal};
-ghost use Rattle.fs_page.specs.Pages.{IsPageOf, IsPlayedAs, IsPlayedJournal, IsPlayedRun};
+ghost use Rattle.fs_page.specs.Pages.{IsNotedPage, IsPageOf, IsPlayedAs, IsPlayedJournal, IsPlayedRun};
 ghost use Rattle.fs_page.specs.code.Mades.{MakesPage};
 
 use crate::page::page_of;
-use fs_draw::{DrawFault, draw_input};
+use fs_draw::{DrawFault, View, draw_input};
 use fs_io::{Device, Made, Sink, Source, transform};
 use fs_journal::check_from;
 use fs_sched::{RunFault, Schedule, between, is_lawful, journal_in};
@@ -44,27 +44,33 @@ fn run_in(alloc: Global, text: &[u8], schedule: Schedule) -> Result<Made<bool>, 
     }
 }
 
-/// A journal with a line before it that has its verdict.
-fn judged_text(alloc: Global, verdict: &Verdict, text: &[u8]) -> Result<Vec<u8>, AllocError>
-    ensures { IfOk result (λ judged. judged.items ≡ codes "# " ++ (verdict_line verdict.now ++ text.now)) }
+/// A journal with notes before it, and a line that has its verdict.
+fn judged_text(
+    alloc: Global,
+    notes: &[u8],
+    verdict: &Verdict,
+    text: &[u8],
+) -> Result<Vec<u8>, AllocError>
+    ensures { IfOk result (λ judged. judged.items ≡ notes.now ++ (codes "# " ++ (verdict_line verdict.now ++ text.now))) }
 {
     let mut judged = Addition::new(Vec::new(alloc));
+    judged.push(notes)?;
     judged.push(b"# ")?;
     push_verdict(verdict, &mut judged)?;
     judged.push(text)?;
     Ok(judged.kept())
 }
 
-/// A journal with its verdict, and whether it is lawful.
-fn journal_text(alloc: Global, text: &[u8]) -> Result<Made<bool>, DrawFault>
-    ensures played { IfOk result (λ made. IsPlayedJournal text.now made.end made.text.items) }
+/// A journal with notes and its verdict, and whether it is lawful.
+fn journal_text(alloc: Global, notes: &[u8], text: &[u8]) -> Result<Made<bool>, DrawFault>
+    ensures played { IfOk result (λ made. IsPlayedJournal notes.now text.now made.end made.text.items) }
     ensures fault { (schedule : Schedule) → IfErr result (IsFaultBy true schedule None text.now) }
 {
     let journal = journal_in(alloc, text)?;
     let Ok(verdict) = check_from(alloc, &journal.start, journal.entries.as_slice()) else {
         return Err(out_of_memory());
     };
-    match judged_text(alloc, &verdict, text) {
+    match judged_text(alloc, notes, &verdict, text) {
         Ok(judged) => Ok(Made {
             text: judged,
             end: is_lawful(&verdict),
@@ -86,7 +92,7 @@ fn played_in(alloc: Global, text: &[u8], schedule: Schedule) -> Result<Made<bool
     ensures fault { IfErr result (IsFaultOfPicture schedule None text.now) }
 {
     if is_journal(text) {
-        journal_text(alloc, text)
+        journal_text(alloc, &[], text)
     } else {
         run_in(alloc, text, schedule)
     }
@@ -98,7 +104,7 @@ fn picture_in(alloc: Global, text: &[u8], schedule: Schedule) -> Result<Vec<u8>,
 {
     let mut reader = Device::new(text);
     let mut writer = Device::new(Vec::new(alloc));
-    match draw_input(alloc, &mut reader, &mut writer, schedule, None) {
+    match draw_input(alloc, &mut reader, &mut writer, schedule, View::of(None)) {
         Ok(_) => Ok(writer.inner),
         // What is drawn was played before, and bytes in memory are there to be read and written as long as there is memory.
         Err(_) => Err(AllocError),
@@ -128,6 +134,25 @@ pub fn page_bytes(alloc: Global, text: &[u8], schedule: Schedule) -> Result<Made
     ensures fault { IfErr result (IsFaultOfPicture schedule None text.now) }
 {
     page_in(alloc, text, schedule)
+}
+
+/// The page of a journal in memory, with lines before its verdict that say more of it, each of which begins with `# `; and whether the
+/// journal is lawful.
+pub fn noted_page(alloc: Global, journal: &[u8], notes: &[u8]) -> Result<Made<bool>, DrawFault>
+    ensures page { IfOk result (λ made. IsNotedPage notes.now journal.now made.end made.text.items) }
+    ensures fault { IfErr result (IsFaultBy true Schedule.Given None journal.now) }
+{
+    let played = journal_text(alloc, notes, journal)?;
+    let Ok(picture) = picture_in(alloc, journal, Schedule::Given) else {
+        return Err(out_of_memory());
+    };
+    match page_of(alloc, picture.as_slice(), played.text.as_slice()) {
+        Ok(page) => Ok(Made {
+            text: page,
+            end: played.end,
+        }),
+        Err(_) => Err(out_of_memory()),
+    }
 }
 
 /// Reads a script to its end, runs it by a schedule and writes a page that plays its run; or reads a journal and writes a page that

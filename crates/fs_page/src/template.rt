@@ -7,7 +7,7 @@ pub const BEFORE: &[u8] = br##"<!DOCTYPE html>
 <head>
 <meta charset="utf-8">
 <meta name="viewport" content="width=device-width, initial-scale=1">
-<meta http-equiv="Content-Security-Policy" content="default-src 'none'; img-src data:; style-src 'unsafe-inline'; script-src 'sha256-GqoEZ20jPKP3GpQBfHGu6HjFJytc5SNCBUY0L8g8/uM=' 'sha256-TnwU4Xfk8tN8L4U3Pd7Ltm3Y0hj0bYl6ACT6rlSc0a0='">
+<meta http-equiv="Content-Security-Policy" content="default-src 'none'; img-src data:; style-src 'unsafe-inline'; script-src 'sha256-Qy4YA0McmUOuJWllLKvoJG56+AnKTWMVaJFqfHwaH+k=' 'sha256-vym8heqAQz9qoDtyf71K0qQy57aQ5ySAscsxNlP22zA='">
 <title>AtomFS: a run, event by event</title>
 <style>
 :root {
@@ -64,6 +64,7 @@ li.met { box-shadow: inset 3px 0 var(--help); }
 .holder { color: var(--help); }
 summary { cursor: pointer; margin-top: 12px; }
 img { max-width: 100%; }
+body > svg { position: absolute; }
 @media (max-width: 700px) { #parts { grid-template-columns: minmax(0, 1fr); } #lanes b { width: 70px; } }
 @media print { #controls, #at, #keys, #met:empty, details { display: none; } #calls li, #events li { height: auto; white-space: pre-wrap; overflow-wrap: anywhere; } .rows { max-height: none; overflow: visible; } .rows ol { height: auto !important; padding: 0 !important; } body { max-width: none; } }
 </style>
@@ -215,6 +216,18 @@ function makeChange(root, effect, words) {
   put(root, namesOf(second), node);
 }
 
+// ---- What a reader sees of bytes
+
+// Bytes as text if all are printable; of many the first.
+function legible(hex) {
+  const few = hex.slice(0, 120), bytes = (few.match(/../g) || []).map(byte => parseInt(byte, 16));
+  const isText = bytes.every(byte => (byte >= 32 && byte < 127) || byte === 9 || byte === 10);
+  return `${isText ? JSON.stringify(String.fromCharCode(...bytes)) : few}${few.length < hex.length ? "\u2026" : ""}`;
+}
+
+// The words of a call or a reply, with their bytes so.
+const inText = words => words.replace(/^(write \S+ \d+|bytes) (-|[0-9A-Fa-f]+)$/, (_, before, hex) => `${before} ${legible(hex.replace("-", ""))}`);
+
 // ---- Reading a text: `events` have a number, a call and what it did; `calls` have the events at which they begin, take effect, and so on
 
 function emptyRun() {
@@ -226,7 +239,8 @@ function addEvent(run, number, name, what) {
   const at = run.events.length + 1;
   if (what.startsWith("begins ")) {
     const lane = name.split("#")[0], ofLane = run.ofLane.get(lane) || run.ofLane.set(lane, []).get(lane);
-    const call = {name: `${lane}#${ofLane.length + 1}`, lane, words: what.slice(7).replace(/, call \d+$/, ""), begin: at, waits: []};
+    const words = what.slice(7).replace(/, call \d+$/, "");
+    const call = {name: `${lane}#${ofLane.length + 1}`, lane, words, shown: inText(words), begin: at, waits: []};
     ofLane.push(Object.assign(call, {commit: null, change: null, end: null, order: 0, helper: null, reply: null}));
     run.byName.set(name, call);
     run.calls.push(call);
@@ -310,6 +324,8 @@ function readRun(text) {
   const all = text.split("\n").filter(line => line), first = all.findIndex(line => line.startsWith("atomfs-")), lines = all.slice(first);
   const run = lines[0].startsWith("atomfs-journal") ? readJournal(lines) : readTrace(lines);
   for (const line of all.slice(0, first)) readNote(run, line);
+  // A journal that ends with a return before its commit is what is found of a history: up to there an order explains it.
+  if (run.fault && run.fault.kind === "ReturnUncommitted" && run.fault.place === run.events.length) run.found = run.found || "none";
   const lanes = [...new Set([...run.lanes, ...run.calls.map(call => call.lane)])];
   run.lanes = run.lanes.length ? lanes : lanes.sort(new Intl.Collator("en", {numeric: true}).compare);
   for (const lane of lanes) if (!run.ofLane.has(lane)) run.ofLane.set(lane, []);
@@ -379,7 +395,7 @@ function metWords(run, call) {
 // ---- Sentences
 
 const nth = number => number + (/1[123]$/.test(number) ? "th" : {1: "st", 2: "nd", 3: "rd"}[number % 10] || "th");
-const titled = call => `${call.name} (${call.words})`;
+const titled = call => `${call.name} (${call.shown})`;
 const count = (number, what) => `${number} ${what}${number === 1 ? "" : "s"}`;
 const inWords = effect => effect === "answers" ? "it reads, and changes nothing" : `it ${effect.replace(/^fails (\w+)/, "fails with $1")}`;
 
@@ -389,13 +405,13 @@ function sentenceOf(run, at) {
   if (!call) return `${what.replace(/^checkpoint,/, "A checkpoint: the journal begins again here, and")}.`;
   const helped = verb === "helps" && run.byName.get(path.slice(0, -1));
   switch (verb) {
-    case "begins": return `${call.lane} begins ${call.name}: ${call.words}.`;
+    case "begins": return `${call.lane} begins ${call.name}: ${call.shown}.`;
     case "locks": case "unlocks": return `${titled(call)} ${what.replace(/, (removed|locked as \S+)$/, ", which it has $1")}.`;
     case "waits": return `${titled(call)} waits for ${rest.slice(4).replace(" held by ", ", which ")} has locked.`;
     case "helps": return `${titled(call)} is about to move what ${titled(helped)} still works in, at ${what.split(" ").pop()}. So it helps: `
       + `${helped.name} takes effect now, ${nth(helped.order)} in order, before the move. Its change is still to come.`;
     case "makes": return `${titled(call)} took effect when ${call.helper.name} helped it. Now it makes its change: ${inWords(rest.slice(12))}.`;
-    case "returns": return `${titled(call)} returns ${rest}.`;
+    case "returns": return `${titled(call)} returns ${inText(rest)}.`;
     default: return `${titled(call)} takes effect, ${nth(call.order)} in order: ${inWords(rest)}.`;
   }
 }
@@ -409,7 +425,7 @@ const faulty = run => run.fault && run.events[run.fault.place - 1] ? run.events[
 function verdictNews(run) {
   if (run.found === "lawful") return ["an order explains every reply"];
   const call = run.found === "none" ? faulty(run) : null;
-  if (call) return [`no order explains that ${call.words} returned ${call.reply}`];
+  if (call) return [`no order explains that ${call.shown} returned ${inText(call.reply)}`];
   return run.fault ? [`entry ${run.fault.place} is wrong: ${run.fault.kind}`] : [];
 }
 
@@ -418,7 +434,7 @@ function newsOf(run) {
   const helped = run.calls.filter(call => call.helper), left = run.calls.filter(call => call.end === null);
   const more = list => list.length > 1 ? ` and ${list.length - 1} more` : "";
   const news = [`${count(run.calls.length, "call")} on ${count(run.lanes.length, "thread")}`];
-  if (helped.length) news.push(`${helped[0].helper.words} helped ${helped[0].words}${more(helped)}`);
+  if (helped.length) news.push(`${helped[0].helper.shown} helped ${helped[0].shown}${more(helped)}`);
   if (left.length) news.push(`${left[0].name} has not returned${more(left)}`);
   if (run.unbegun) news.push(`${run.unbegun} not begun`);
   news.push(...verdictNews(run));
@@ -460,8 +476,8 @@ class Rows {
     this.draw();
   }
   draw(more = 0) {
-    const first = Math.max(0, Math.floor(this.box.scrollTop / this.height) - 4);
-    const most = Math.ceil(this.box.clientHeight / this.height) + 8 + more;
+    const first = Math.max(0, Math.floor(this.box.scrollTop / this.height) - 4 - more);
+    const most = Math.ceil(this.box.clientHeight / this.height) + 8 + 2 * more;
     this.list.style.paddingTop = `${first * this.height}px`;
     this.list.replaceChildren(...Array.from({length: Math.max(0, Math.min(most, this.count - first))}, (_, place) => this.row(first + place)));
   }
@@ -473,8 +489,8 @@ const view = {at: 0, from: 0, to: Math.min(end, 200), state: null, timer: null, 
 const rows = {lanes: new Rows("lanes", 44), tree: new Rows("tree", 24), calls: new Rows("calls", 24), events: new Rows("events", 24)};
 
 function contentOf(file) {
-  const bytes = file.data !== null && file.size <= 60 ? (file.data.match(/../g) || []).map(byte => parseInt(byte, 16)) : null;
-  return bytes && bytes.every(byte => byte >= 32 && byte < 127) ? JSON.stringify(String.fromCharCode(...bytes)) : count(file.size, "byte");
+  const shown = file.data !== null && file.size <= 60 ? legible(file.data) : "";
+  return shown[0] === '"' ? shown : count(file.size, "byte");
 }
 
 function nodeRow({names, node}, isMarked) {
@@ -487,7 +503,7 @@ function nodeRow({names, node}, isMarked) {
 
 function statusOf(call) {
   const has = event => event !== null && event <= view.at, wait = view.state.waits.get(call);
-  if (has(call.end)) return `\u2192 ${call.reply}`;
+  if (has(call.end)) return `\u2192 ${inText(call.reply)}`;
   if (wait) return `waits for ${wait}`;
   if (!has(call.commit)) return "under way";
   return has(call.change) ? "has taken effect" : `helped by ${call.helper.name}; its change is still to come`;
@@ -496,7 +512,7 @@ function statusOf(call) {
 function callRow(call, isMarked) {
   const place = call.commit !== null && call.commit <= view.at ? `${call.order}. ` : "   ", status = statusOf(call);
   const row = ofCall(element("li", place), call, "");
-  row.append(element("span", `${call.name} ${call.words}`, {class: isMarked ? "mark" : ""}));
+  row.append(element("span", `${call.name} ${call.shown}`, {class: isMarked ? "mark" : ""}));
   row.append(element("span", `  ${status}`, {class: /^. failed/.test(status) ? "bad" : "dim"}));
   if (call.source) row.append(element("span", `  ${call.source}`, {class: "holder"}));
   return row;
@@ -553,7 +569,7 @@ function bar(call, x, right, isChosen) {
   if (width < 30) return group;
   if (call.commit !== null) group.append(element("circle", "", {cx: commit, cy: 26, r: 9, class: call.helper ? "helped" : ""}));
   if (call.commit !== null) group.append(element("text", call.order, {x: commit, y: 30, class: call.helper ? "order helped" : "order"}));
-  group.append(element("text", cut(call.words, (Math.min(right, 2000) - Math.max(left, 0)) / 7), {x: Math.max(left, 0), y: 13}));
+  group.append(element("text", cut(call.shown, (Math.min(right, 2000) - Math.max(left, 0)) / 7), {x: Math.max(left, 0), y: 13}));
   return group;
 }
 
@@ -610,7 +626,7 @@ function goTo(by, isWanted) {
 
 function find(words, by) {
   byId("found").textContent = "";
-  const textOf = call => call ? `${call.name} ${call.words} ${call.source || ""} ` : "";
+  const textOf = call => call ? `${call.name} ${call.words} ${call.shown} ${call.source || ""} ` : "";
   if (words) goTo(by, ({call, what}) => `${textOf(call)}${what}`.includes(words));
 }
 
@@ -657,6 +673,7 @@ addEventListener("keydown", onKey);
 addEventListener("hashchange", goToHash);
 addEventListener("resize", draw);
 addEventListener("beforeprint", () => Object.values(rows).forEach(list => list.draw(200)));
+addEventListener("afterprint", draw);
 byId("news").textContent = newsOf(run);
 byId("source").hidden = !run.calls.some(call => call.source);
 byId("legend").textContent = run.unordered.length ? " Dashed: it has no place in the order. Red: what is wrong." : "";

@@ -3,7 +3,7 @@
 use crate::scene::{Mark, Scene, What};
 use std::alloc::{AllocError, Global};
 
-/// If more lanes than these are drawn, waits are folded.
+/// If more lanes than these are drawn, waits are folded, whether that is asked for or not.
 const MOST_LANES: usize = 8;
 
 /// Whether a mark goes on with a wait that its call began before; it notes for which node each call waits.
@@ -19,10 +19,11 @@ fn goes_on(mark: &Mark, waits: &mut Vec<Option<u32>>) -> bool {
     slot.is_some() && *slot == before
 }
 
-/// The scene of which each wait has one mark, where it begins, if more than eight lanes are drawn; and else the same scene.
-pub fn folded(alloc: Global, scene: Scene) -> Result<Scene, AllocError> {
+/// The scene of which each wait has one mark, where it begins, if more than eight lanes are drawn or if it is asked for; and else the
+/// same scene.
+pub fn folded(alloc: Global, scene: Scene, is_asked: bool) -> Result<Scene, AllocError> {
     let mut scene = scene;
-    if !scene.is_run || scene.lanes.len() <= MOST_LANES {
+    if !scene.is_run || (scene.lanes.len() <= MOST_LANES && !is_asked) {
         return Ok(scene);
     }
     let mut waits = Vec::new(alloc);

@@ -1,12 +1,13 @@
 //! The scene of a journal.
 
+use crate::overlap::{cut_to, kept_in};
 use crate::scene::{Card, Fault, Mark, Reported, Scene, What, short};
 use crate::seat_names::seat_names;
 use fs_calls::{Call, Reply};
 use fs_names::{CallNo, SeatNo};
 use fs_sched::{call_of, due_reply, kind_text, push_verdict};
 use fs_script::Journal;
-use fs_sight::{Tree, trees_of};
+use fs_sight::{Commit, Tree, trees_of};
 use fs_timeline::{Entry, FaultKind, Verdict};
 use fs_words::Addition;
 use std::alloc::{AllocError, Global};
@@ -328,8 +329,12 @@ impl Reading {
         Ok(())
     }
 
-    /// The calls of these entries that committed, in the order of their commits, with their places among the calls.
-    fn committed<'e>(&self, entries: &'e [Entry]) -> Result<Vec<(usize, &'e Call)>, AllocError> {
+    /// The commits among these entries, in their order, and whether each is of a call that is kept.
+    fn committed<'e>(
+        &self,
+        entries: &'e [Entry],
+        kept: &[bool],
+    ) -> Result<Vec<Commit<'e>>, AllocError> {
         let mut calls = BTreeMap::new(self.alloc);
         let mut commits = Vec::new(self.alloc);
         for entry in entries {
@@ -342,7 +347,11 @@ impl Reading {
                         self.cards.get(&number.get()),
                         calls.get(&number.get()),
                     ) {
-                        commits.push((*card, *call))?;
+                        commits.push(Commit {
+                            card: *card,
+                            call: *call,
+                            is_shown: kept.get(*card) == Some(&true),
+                        })?;
                     }
                 }
                 Entry::Return(_, _) => {}
@@ -351,12 +360,17 @@ impl Reading {
         Ok(commits)
     }
 
-    /// The trees before and after the commits of these entries of a journal.
-    fn trees_in(&self, journal: &Journal, entries: &[Entry]) -> Result<Vec<Tree>, AllocError> {
-        if self.scene.is_large() {
+    /// The trees before and after the commits among these entries, of those calls of a journal that are kept.
+    fn trees_in(
+        &self,
+        journal: &Journal,
+        entries: &[Entry],
+        kept: &[bool],
+    ) -> Result<Vec<Tree>, AllocError> {
+        if !self.scene.shows_trees(kept) {
             return Ok(Vec::new(self.alloc));
         }
-        let commits = self.committed(entries)?;
+        let commits = self.committed(entries, kept)?;
         trees_of(self.alloc, journal.start.copy()?, commits.as_slice(), true)
     }
 }
@@ -386,13 +400,15 @@ fn set_due(alloc: Global, journal: &Journal, scene: &mut Scene) -> Result<(), Al
 }
 
 /// The scene of a journal's entries, up to the first one that does not fit those before it. `text` is that of the journal, whose
-/// comments `# seat NUMBER NAME` name lanes.
+/// comments `# seat NUMBER NAME` name lanes. Where a call's number is given, it has that call and those around it alone; none where no
+/// call has this number.
 pub fn scene_of_journal(
     alloc: Global,
     journal: &Journal,
     verdict: &Verdict,
     text: &[u8],
-) -> Result<Scene, AllocError> {
+    call: Option<u64>,
+) -> Result<Option<Scene>, AllocError> {
     let entries = journal.entries.as_slice();
     let mut reading = Reading::new(alloc, entries, verdict, text)?;
     let mut at = 0u64;
@@ -405,12 +421,19 @@ pub fn scene_of_journal(
         }
         fitting = fitting.saturating_add(1);
     }
-    let trees = reading.trees_in(journal, entries.get(..fitting).unwrap_or(&[]))?;
+    let Some(kept) = kept_in(alloc, &reading.scene, call)? else {
+        return Ok(None);
+    };
+    let trees = reading.trees_in(
+        journal,
+        entries.get(..fitting).unwrap_or(&[]),
+        kept.as_slice(),
+    )?;
     let mut scene = reading.scene;
     scene.calls = scene.cards.len();
     scene.trees = trees;
     if let Verdict::Fault(_, FaultKind::WrongReply) = verdict {
         set_due(alloc, journal, &mut scene)?;
     }
-    Ok(scene)
+    Ok(Some(cut_to(alloc, scene, kept.as_slice(), call)?))
 }

@@ -1,11 +1,12 @@
 //! The scene of a script's run.
 
 use crate::labels::{last_name, push_who};
+use crate::overlap::{cut_to, kept_in};
 use crate::scene::{Card, Mark, Reported, Scene, What, short};
-use fs_calls::{Call, Reply};
+use fs_calls::Reply;
 use fs_script::Script;
 use fs_seq::SeqTree;
-use fs_sight::{Text, Tree, note_alike, trees_of};
+use fs_sight::{Commit, Text, Tree, note_alike, trees_of};
 use fs_story::{CallPlace, Deed, Line, Page, Story};
 use std::alloc::{AllocError, Global};
 use std::collections::BTreeMap;
@@ -238,13 +239,14 @@ fn add_words(
     Ok(())
 }
 
-/// The calls that committed, in the order of their commits, with their places among the calls.
+/// The commits, in their order, and whether each is of a call that is kept.
 fn committed<'s>(
     alloc: Global,
     script: &'s Script,
     calls: &[CallPlace],
     cards: &[Card],
-) -> Result<Vec<(usize, &'s Call)>, AllocError> {
+    kept: &[bool],
+) -> Result<Vec<Commit<'s>>, AllocError> {
     let mut order = BTreeMap::new(alloc);
     for i in 0..cards.len() {
         if cards[i].order > 0 {
@@ -255,24 +257,29 @@ fn committed<'s>(
     for at in order.values() {
         if let Some(place) = calls.get(*at) {
             if let Some(call) = script.lists.of(place.seat).get(place.at) {
-                commits.push((*at, call))?;
+                commits.push(Commit {
+                    card: *at,
+                    call,
+                    is_shown: kept.get(*at) == Some(&true),
+                })?;
             }
         }
     }
     Ok(commits)
 }
 
-/// The trees before and after the commits of a run.
+/// The trees before and after the commits of those calls of a run that are kept.
 fn trees_in(
     alloc: Global,
     script: &Script,
     calls: &[CallPlace],
     scene: &Scene,
+    kept: &[bool],
 ) -> Result<Vec<Tree>, AllocError> {
-    if scene.is_large() {
+    if !scene.shows_trees(kept) {
         return Ok(Vec::new(alloc));
     }
-    let commits = committed(alloc, script, calls, scene.cards.as_slice())?;
+    let commits = committed(alloc, script, calls, scene.cards.as_slice(), kept)?;
     let tree = SeqTree::with_limits(alloc, script.limits)?;
     trees_of(
         alloc,
@@ -282,12 +289,14 @@ fn trees_in(
     )
 }
 
-/// The scene of a run that was told: all its pieces, one after the other.
+/// The scene of a run that was told: all its pieces, one after the other. Where a call's number is given, it has that call and those
+/// around it alone; none where no call has this number.
 pub fn scene_of_run(
     alloc: Global,
     script: &Script,
     story: Story<Strip>,
-) -> Result<Scene, AllocError> {
+    call: Option<u64>,
+) -> Result<Option<Scene>, AllocError> {
     let Story {
         page,
         calls,
@@ -303,7 +312,10 @@ pub fn scene_of_run(
         &mut scene.cards,
     )?;
     scene.calls = scene.cards.len();
-    scene.trees = trees_in(alloc, script, calls.as_slice(), &scene)?;
+    let Some(kept) = kept_in(alloc, &scene, call)? else {
+        return Ok(None);
+    };
+    scene.trees = trees_in(alloc, script, calls.as_slice(), &scene, kept.as_slice())?;
     note_alike(alloc, &mut scene.names)?;
-    Ok(scene)
+    Ok(Some(cut_to(alloc, scene, kept.as_slice(), call)?))
 }

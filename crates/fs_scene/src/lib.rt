@@ -1,7 +1,7 @@
 //! What a picture shows: lanes, calls, and the marks of what they did, in order.
 //!
-//! A `Scene` is made from a run while it is played (`Strip`, `scene_of_run`) or from a journal (`scene_of_journal`). `around` cuts it down
-//! to a call and those that overlap it, and `folded` to one mark for each wait. It has trees before and after commits, from `fs_sight`.
+//! A `Scene` is made from a run while it is played (`Strip`, `scene_of_run`) or from a journal (`scene_of_journal`): the whole, or a call
+//! and those that overlap it. It has trees before and after their commits, from `fs_sight`. `folded` leaves one mark of each wait.
 //! `label_of` and its like give the words of a call as a picture shows them, cut if they are too long. That each function is safe and
 //! ends is proved; what is in a scene is tested, with pictures.
 #![tactic(auto)]
@@ -19,5 +19,4 @@ pub use from_journal::scene_of_journal;
 pub use from_run::{Strip, scene_of_run};
 pub use fs_sight::{ARROW, ELLIPSIS, Leaf, Tree, When, push_apart, push_cut};
 pub use labels::{Label, label_of, last_name, push_call_of, push_who};
-pub use overlap::around;
 pub use scene::{Card, Fault, Mark, Reported, Scene, What};

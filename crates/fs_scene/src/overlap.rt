@@ -1,4 +1,4 @@
-//! One call, and those that overlap it.
+//! The calls that are drawn: all, or one and those that overlap it.
 
 use crate::scene::{Card, Fault, Mark, Scene, What, short};
 use fs_sight::{Tree, When};
@@ -111,19 +111,48 @@ fn mark_at(mark: Mark, cards: &[Option<usize>]) -> Option<Mark> {
     Some(Mark { card, what, ..mark })
 }
 
-/// The scene of the call of a number and those that overlap it, or help a call that is shown, or are helped by one; none where
-/// no call has this number. Of a run in pieces it has that of each piece that has such a call, with the checkpoints between.
-pub fn around(alloc: Global, scene: Scene, number: u64) -> Result<Option<Scene>, AllocError> {
-    let mut kept = kept_behind(alloc, &scene, number)?;
-    keep_before(&scene, number, &mut kept);
+/// Which calls are drawn: all, or those around the call of a number. These are the calls that overlap it, or help a call that is
+/// drawn, or are helped by one. None where no call has this number. Of a run in pieces it is those of each piece that has such a call.
+pub(crate) fn kept_in(
+    alloc: Global,
+    scene: &Scene,
+    call: Option<u64>,
+) -> Result<Option<Vec<bool>>, AllocError> {
+    let Some(number) = call else {
+        return Ok(Some(all_of(alloc, scene)?));
+    };
+    let mut kept = kept_behind(alloc, scene, number)?;
+    keep_before(scene, number, &mut kept);
     if !kept.contains(&true) {
         return Ok(None);
     }
-    keep_helpers(&scene, &mut kept);
-    let cards = new_places(alloc, kept.as_slice())?;
-    let lanes_kept = lanes_kept(alloc, &scene, kept.as_slice())?;
+    keep_helpers(scene, &mut kept);
+    Ok(Some(kept))
+}
+
+fn all_of(alloc: Global, scene: &Scene) -> Result<Vec<bool>, AllocError> {
+    let mut all = Vec::new(alloc);
+    for _ in &scene.cards {
+        all.push(true)?;
+    }
+    Ok(all)
+}
+
+/// The scene of the calls that are kept, with the checkpoints between them; the whole scene where no call has a number around which
+/// is drawn.
+pub(crate) fn cut_to(
+    alloc: Global,
+    scene: Scene,
+    kept: &[bool],
+    call: Option<u64>,
+) -> Result<Scene, AllocError> {
+    let Some(number) = call else {
+        return Ok(scene);
+    };
+    let cards = new_places(alloc, kept)?;
+    let lanes_kept = lanes_kept(alloc, &scene, kept)?;
     let lanes = new_places(alloc, lanes_kept.as_slice())?;
-    Ok(Some(moved(alloc, scene, cards.as_slice(), lanes.as_slice(), number)?))
+    moved(alloc, scene, cards.as_slice(), lanes.as_slice(), number)
 }
 
 /// The cards that have new places, with the new places of their lanes.
@@ -179,7 +208,7 @@ fn between(alloc: Global, checkpoints: &[u64], marks: &[Mark]) -> Result<Vec<u64
     Ok(kept)
 }
 
-/// The trees before the first commit, and after each commit of a call that has a new place.
+/// The trees, with the new places of the calls of their commits.
 fn moved_trees(
     alloc: Global,
     old: Vec<Tree>,

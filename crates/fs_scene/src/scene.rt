@@ -4,6 +4,9 @@ use fs_calls::{Call, Errno, NodeCall, Reply, Target};
 use fs_sight::{Text, Tree, push_apart, write_shown_call, write_shown_reply};
 use std::alloc::{AllocError, Global};
 
+/// Of more calls than these details are left out.
+const MOST_CALLS: usize = 2_000;
+
 /// What a call did at a mark.
 #[derive(Clone, Copy, Debug, PartialEq, Eq)]
 pub enum What {
@@ -159,7 +162,18 @@ pub struct Scene {
 impl Scene {
     /// Whether there are so many calls that details are left out.
     pub fn is_large(&self) -> bool {
-        self.cards.len() > 2_000
+        self.cards.len() > MOST_CALLS
+    }
+
+    /// Whether trees are shown, if these calls are drawn.
+    pub(crate) fn shows_trees(&self, kept: &[bool]) -> bool {
+        let mut count = 0usize;
+        for keeps in kept {
+            if *keeps {
+                count = count.saturating_add(1);
+            }
+        }
+        count <= MOST_CALLS
     }
 
     /// Whether the events of a call have ticks.

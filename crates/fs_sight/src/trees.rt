@@ -32,11 +32,11 @@ pub struct Leaf {
 /// When a tree is shown.
 #[derive(Clone, Copy, Debug, PartialEq, Eq)]
 pub enum When {
-    /// Before the first commit.
+    /// Before the first commit that is shown.
     Before,
     /// After the commit of the call at this place among the calls.
     After(usize),
-    /// After the last commit, where not each has its tree.
+    /// After the last commit that is shown, where not each has its tree.
     End,
 }
 
@@ -47,6 +47,14 @@ pub struct Tree {
     pub leaves: Vec<Leaf>,
     pub is_cut: bool,
     pub is_same: bool,
+}
+
+/// A commit: the place of its call among the calls, the call, and whether the tree after it is shown.
+#[derive(Clone, Copy)]
+pub struct Commit<'c> {
+    pub card: usize,
+    pub call: &'c Call,
+    pub is_shown: bool,
 }
 
 /// An entry that is looked at: its path, how deep it is, and what is shown of its bytes.
@@ -285,32 +293,74 @@ fn tree_of(alloc: Global, sight: &Sight, when: When) -> Result<Tree, AllocError>
     })
 }
 
-/// The tree before the first of these commits, which are the calls with their places in order, and after each; or, where they are
-/// too many or not each is to be shown, after the last one. No trees where there is no commit.
+/// How many of these commits are shown.
+fn shown_in(commits: &[Commit<'_>]) -> usize {
+    let mut shown = 0usize;
+    for commit in commits {
+        if commit.is_shown {
+            shown = shown.saturating_add(1);
+        }
+    }
+    shown
+}
+
+/// The trees so far, and the last of them as it was looked at; none before the first.
+#[derive(Drop)]
+struct Strip {
+    alloc: Global,
+    trees: Vec<Tree>,
+    last: Option<Sight>,
+}
+
+impl Strip {
+    /// Adds a tree. What is new in it is new since the last one.
+    fn push(&mut self, tree: &SeqTree, when: When) -> Result<(), AllocError> {
+        let mut now = sight_of(self.alloc, tree)?;
+        if let Some(before) = &self.last {
+            note_new(before.seen.as_slice(), &mut now);
+        }
+        self.trees.push(tree_of(self.alloc, &now, when)?)?;
+        self.last = Some(now);
+        Ok(())
+    }
+}
+
+/// The tree before the first of these commits that is shown, and after each that is. If they are too many or not each is to be shown,
+/// the second tree is that after the last of them. No trees if no commit is shown.
 pub fn trees_of(
     alloc: Global,
     mut tree: SeqTree,
-    commits: &[(usize, &Call)],
+    commits: &[Commit<'_>],
     each: bool,
 ) -> Result<Vec<Tree>, AllocError> {
-    let mut trees = Vec::new(alloc);
-    if commits.is_empty() {
-        return Ok(trees);
-    }
-    let each = each && commits.len() <= MOST_COMMITS;
-    let mut before = sight_of(alloc, &tree)?;
-    trees.push(tree_of(alloc, &before, When::Before)?)?;
-    let mut left = commits.len();
-    for (card, call) in commits {
-        left = left.saturating_sub(1);
-        let _ = tree.apply(alloc, call)?;
-        if each || left == 0 {
-            let mut now = sight_of(alloc, &tree)?;
-            note_new(before.seen.as_slice(), &mut now);
-            let when = if each { When::After(*card) } else { When::End };
-            trees.push(tree_of(alloc, &now, when)?)?;
-            before = now;
+    let mut left = shown_in(commits);
+    let each = each && left <= MOST_COMMITS;
+    let mut strip = Strip {
+        alloc,
+        trees: Vec::new(alloc),
+        last: None,
+    };
+    for commit in commits {
+        if left == 0 {
+            break;
+        }
+        if commit.is_shown && strip.last.is_none() {
+            strip.push(&tree, When::Before)?;
+        }
+        let _ = tree.apply(alloc, commit.call)?;
+        if commit.is_shown {
+            left = left.saturating_sub(1);
+            if each || left == 0 {
+                strip.push(
+                    &tree,
+                    if each {
+                        When::After(commit.card)
+                    } else {
+                        When::End
+                    },
+                )?;
+            }
         }
     }
-    Ok(trees)
+    Ok(strip.trees)
 }

@@ -6,7 +6,7 @@ ghost use Rattle.fs_draw.specs.Pictures.{IsPictureOf};
 ghost use Rattle.fs_embed.specs.Statuses.{IsRefusal};
 ghost use Rattle.fs_tools.specs.Tools.{around_of, IsToldNoPicture};
 
-use fs_draw::{DrawFault, draw_input};
+use fs_draw::{DrawFault, View, draw_input};
 use fs_embed::status::NO_CALL;
 use fs_embed::told::tell_fault;
 use fs_sched::{Device, RunFault, Schedule};
@@ -37,7 +37,7 @@ pub fn draw_bytes(
 {
     let mut reader = Device::new(text);
     let mut writer = Device::new(Vec::new(alloc));
-    match draw_input(alloc, &mut reader, &mut writer, by, call) {
+    match draw_input(alloc, &mut reader, &mut writer, by, View::of(call)) {
         Ok(_) => Ok(writer.inner),
         Err(fault @ DrawFault::NoCall(_)) => Err(fault),
         Err(fault @ DrawFault::Run(RunFault::Input(_))) => Err(fault),

@@ -47,7 +47,7 @@ pub returns-in-Err-clause-beginning : goal.returns-in-Err-clause-beginning
 returns-in-Err-clause-beginning g c e =
     let never : (f : DrawFault) → c.in-Err.failure ≡ failure.Unmade f → f ≢ Run run.Write = λ f same wrong.
     let told = c.in-Err.ensures.unmade f (ap Err same) in
-    subst (IsFaultOfPicture c.args.schedule c.args.call told.0.items) wrong told.2.1.fault in
+    subst (IsFaultOfPicture c.args.schedule c.args.view.around told.0.items) wrong told.2.1.fault in
     let told = c.in-Err.ensures.beginning (ap Err (unwritten gives _ _ (Run run.Write) c.between.ensures (cc) (λ z. cc) (λ z. cc) never)) in
     let picture = told.3.1.picture in
     (told.1.end, told.1.text.items, known (λ input. IsPictureOf c.args.schedule input told.1.end told.1.text.items) _ _ _ refl (picture_short c.args.schedule told.0.items _ _ _ refl picture) told.2 picture, told.4)

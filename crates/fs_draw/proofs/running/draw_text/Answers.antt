@@ -8,10 +8,5 @@ use Rattle.fs_draw.proofs.running.draw_text.Goals as goal
 pub returns-in_err-drawing : goal.returns-in_err-drawing
 returns-in_err-drawing c =
     let e : ◌≡◌ {A = Result (Made Bool) DrawFault} c.from_residual.result (Err c.in_err-drawing.field-0.0) = search rules in
-    let fault = subst (λ (t : List ℕ). IsFaultOfPicture c.args.schedule c.args.call t c.in_err-drawing.field-0.0) c.as_slice.ensures.value (c.in_err-drawing.ensures.fault c.args.call) in
-    subst (MakesPicture c.args.schedule c.args.call c.args.text.items) (sym e) (record { picture = tt; fault = fault })
-
-pub returns-in_err-part : goal.returns-in_err-part
-returns-in_err-part c =
-    let e : ◌≡◌ {A = Result (Made Bool) DrawFault} c.from_residual-in_err-part.result (Err c.in_err-part.field-0.0) = search rules in
-    subst (MakesPicture c.args.schedule c.args.call c.args.text.items) (sym e) (record { picture = tt; fault = c.in_err-part.ensures c.args.schedule c.args.text.items })
+    let fault = subst (λ (t : List ℕ). IsFaultOfPicture c.args.schedule c.args.view.around t c.in_err-drawing.field-0.0) c.as_slice.ensures.value c.in_err-drawing.ensures.fault in
+    subst (MakesPicture c.args.schedule c.args.view.around c.args.text.items) (sym e) (record { picture = tt; fault = fault })

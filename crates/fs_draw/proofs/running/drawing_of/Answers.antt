@@ -10,9 +10,9 @@ returns-then-is_journal-clause-drawn c =
     subst (λ (b : Bool). IfOk c.of_journal.result (λ drawing. IsOf b c.args.schedule c.args.text.now drawing.well)) (sym is) c.of_journal.ensures.drawn
 
 pub returns-then-is_journal-clause-fault : goal.returns-then-is_journal-clause-fault
-returns-then-is_journal-clause-fault c call =
+returns-then-is_journal-clause-fault c =
     let is : is_journal c.args.text.now ≡ true = sym c.is_journal.ensures ∙ c.if-is_journal.true in
-    subst (λ (b : Bool). IfErr c.of_journal.result (IsFaultBy b c.args.schedule call c.args.text.now)) (sym is) (c.of_journal.ensures.fault c.args.schedule call)
+    subst (λ (b : Bool). IfErr c.of_journal.result (IsFaultBy b c.args.schedule c.args.call c.args.text.now)) (sym is) (c.of_journal.ensures.fault c.args.schedule)
 
 pub returns-else-is_journal-clause-drawn : goal.returns-else-is_journal-clause-drawn
 returns-else-is_journal-clause-drawn c =
@@ -20,6 +20,6 @@ returns-else-is_journal-clause-drawn c =
     subst (λ (b : Bool). IfOk c.of_script.result (λ drawing. IsOf b c.args.schedule c.args.text.now drawing.well)) (sym is) c.of_script.ensures.drawn
 
 pub returns-else-is_journal-clause-fault : goal.returns-else-is_journal-clause-fault
-returns-else-is_journal-clause-fault c call =
+returns-else-is_journal-clause-fault c =
     let is : is_journal c.args.text.now ≡ false = sym c.is_journal.ensures ∙ c.if-is_journal.false in
-    subst (λ (b : Bool). IfErr c.of_script.result (IsFaultBy b c.args.schedule call c.args.text.now)) (sym is) (c.of_script.ensures.fault call)
+    subst (λ (b : Bool). IfErr c.of_script.result (IsFaultBy b c.args.schedule c.args.call c.args.text.now)) (sym is) c.of_script.ensures.fault

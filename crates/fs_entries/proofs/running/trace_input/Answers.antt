@@ -16,8 +16,8 @@ gives fault x = x ≡ fault
 pub returns-in-Ok-clause-ran : goal.returns-in-Ok-clause-ran
 returns-in-Ok-clause-ran g c =
     let told = c.in-Ok.ensures.made in
-    let trace = subst (λ well. IsTraceOfInput c.args.schedule c.args.every told.0.items well told.1.text.items) (sym (ap (λ (r : Traced). r.well) told.5)) told.4.1.traced in
-    (told.1.text.items, known (λ input. IsTraceOfInput c.args.schedule c.args.every input c.in-Ok.traced.well told.1.text.items) _ _ _ refl (trace_short c.args.schedule c.args.every told.0.items _ _ _ refl trace) told.2 trace, told.6)
+    let trace = subst (λ well. IsTraceOfInput c.args.notation c.args.schedule c.args.every told.0.items well told.1.text.items) (sym (ap (λ (r : Traced). r.well) told.5)) told.4.1.traced in
+    (told.1.text.items, known (λ input. IsTraceOfInput c.args.notation c.args.schedule c.args.every input c.in-Ok.traced.well told.1.text.items) _ _ _ refl (trace_short c.args.notation c.args.schedule c.args.every told.0.items _ _ _ refl trace) told.2 trace, told.6)
 
 pub returns-in-Ok-clause-quiet : goal.returns-in-Ok-clause-quiet
 returns-in-Ok-clause-quiet g c well =
@@ -27,7 +27,7 @@ returns-in-Ok-clause-quiet g c well =
     alone _ _ told.5 told.4.1.quiet well
 
 pub returns-in-Ok-clause-end : goal.returns-in-Ok-clause-end
-returns-in-Ok-clause-end g c = let told = c.in-Ok.ensures.made in told.3 (trace_short c.args.schedule c.args.every told.0.items _ _ _ refl told.4.1.traced)
+returns-in-Ok-clause-end g c = let told = c.in-Ok.ensures.made in told.3 (trace_short c.args.notation c.args.schedule c.args.every told.0.items _ _ _ refl told.4.1.traced)
 
 pub returns-in-Err-clause-input : goal.returns-in-Err-clause-input
 returns-in-Err-clause-input g c f e =
@@ -51,4 +51,4 @@ returns-in-Err-clause-beginning g c e =
     never_write _ c.args.schedule _ (subst (IsUntold (is_journal told.0.items) c.args.schedule told.0.items) wrong told.2.1.fault) in
     let told = c.in-Err.ensures.beginning (ap Err (unwritten gives _ _ run.Write c.between.ensures (cc) (λ z. cc) (λ z. cc) never)) in
     let trace = told.3.1.traced in
-    (told.1.end.well, told.1.text.items, known (λ input. IsTraceOfInput c.args.schedule c.args.every input told.1.end.well told.1.text.items) _ _ _ refl (trace_short c.args.schedule c.args.every told.0.items _ _ _ refl trace) told.2 trace, told.4)
+    (told.1.end.well, told.1.text.items, known (λ input. IsTraceOfInput c.args.notation c.args.schedule c.args.every input told.1.end.well told.1.text.items) _ _ _ refl (trace_short c.args.notation c.args.schedule c.args.every told.0.items _ _ _ refl trace) told.2 trace, told.4)

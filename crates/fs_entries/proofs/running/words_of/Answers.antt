@@ -1,7 +1,7 @@
 use Rattle.std.proofs.Common.{◌++◌, ◌∙◌, ap, sym, subst, codes, List, ℕ}
 use Rattle.fs_sched.specs.RunTexts.{end_line}
 use Rattle.fs_entries.specs.Entries.{AreLines}
-use Rattle.fs_entries.proofs.running.text_of.Goals as goal
+use Rattle.fs_entries.proofs.running.words_of.Goals as goal
 
 pub returns : goal.returns
 returns c =
