@@ -1,6 +1,6 @@
 //! The checkpoint of which nothing is handed out.
 
-ghost use Rattle.std.specs.Prelude.{◌≡◌, IfOk, OnOk, IfErr, OnErr, length};
+ghost use Rattle.std.specs.Prelude.{◌≡◌, ◌≢◌, [], IfOk, OnOk, IfErr, OnErr, Err, length};
 ghost use Rattle.fs_timeline.specs.Timeline.{commits};
 ghost use Rattle.fs_machine.specs.States.{begun_again};
 ghost use Rattle.fs_core.specs.CoreValues.{state_of, IsAtRest};
@@ -12,7 +12,8 @@ use std::alloc::Global;
 
 impl Core {
     /// The timeline begins again as at a checkpoint, and its entries are dropped where they are, so that no copy of them is made.
-    /// How many calls they were of: each had committed and returned. Where there are none it takes no memory.
+    /// How many calls they were of: each had committed and returned. If there are no entries, it takes no memory, and `OutOfMemory`
+    /// never comes.
     pub fn forget(&mut self, alloc: Global) -> Result<u64, NoCheckpoint>
         ensures rest { OnOk result (IsAtRest self.old) }
         ensures state { OnOk result (state_of self.new ≡ begun_again (state_of self.old)) }
@@ -20,6 +21,7 @@ impl Core {
         ensures seats { OnOk result (self.new.seats ≡ self.old.seats) }
         ensures refusals { OnOk result (self.new.refusals ≡ self.old.refusals) }
         ensures why { IfErr result (IsWhyNot self.old) }
+        ensures empty { self.old.timeline ≡ [] → result ≢ Err NoCheckpoint.OutOfMemory }
         ensures err { OnErr result (self.new ≡ self.old) }
     {
         let calls = self.commits() as u64;

@@ -438,13 +438,15 @@ impl Core {
         self.memory.refusals()
     }
 
-    /// As `forget`. If memory is refused, that is counted (`refusals`), and nothing else has changed.
+    /// As `forget`. If memory is refused, that is counted (`refusals`), and nothing else has changed. If there are no entries,
+    /// `OutOfMemory` never comes.
     pub fn forget_counted(&mut self, alloc: Global) -> Result<u64, NoCheckpoint>
         ensures rest { OnOk result (IsAtRest self.old) }
         ensures state { OnOk result (state_of self.new ≡ begun_again (state_of self.old)) }
         ensures calls { IfOk result (λ calls. calls ≡ length (commits self.old.timeline)) }
         ensures seats { self.new.seats ≡ self.old.seats }
         ensures why { IfErr result (IsWhyNot self.old) }
+        ensures empty { self.old.timeline ≡ [] → result ≢ Err NoCheckpoint.OutOfMemory }
         ensures err { OnErr result (self.new ≡ record self.old { refusals = self.new.refusals }) }
         ensures granted { result ≢ Err NoCheckpoint.OutOfMemory → self.new.refusals ≡ self.old.refusals }
         ensures refused { result ≡ Err NoCheckpoint.OutOfMemory → self.new.refusals ≢ self.old.refusals }
