@@ -41,8 +41,8 @@ ROWS = (
     Row("entries", f"{CALLS} in one directory of so many entries"),
     Row("nodes", f"{CALLS} among so many files, 100 a directory, the last 1,000 calls kept", rounds=1_000, most=0.2),
     Row("new", f"{WRITE}, whose blocks still share the bytes of the calls that made them", *OF_FILE, None),
-    # The tree at which the journal starts is copied each time that calls are forgotten, unless it has many nodes: the aim is 0.1.
-    Row("file", f"{WRITE}, whose blocks share nothing", *OF_FILE, (512, 4_096), 0.35),
+    # Beside few nodes and a small file, the tree at which the journal starts is copied each time that calls are forgotten.
+    Row("file", f"{WRITE}, whose blocks share nothing", *OF_FILE, (512, 4_096)),
     Row("beside", f"{WRITE}, whose blocks share nothing, beside 1,000 other files", *OF_FILE, None),
     Row("array", "a copy of 4 KiB to somewhere in an array of so many KiB, in C alone", *OF_FILE, None),
     Row("seats", f"{CALLS} on the last of so many seats"),

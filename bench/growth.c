@@ -108,7 +108,8 @@ static int make_file(uint64_t size) {
     return looked(2 * KEPT_OF_FILE);
 }
 
-/* beside: the same beside 1,000 files. For so many nodes a tree that forgets keeps a second copy of the tree at which its journal starts. */
+/* beside: the same beside 1,000 files. For so many nodes a tree that forgets keeps a second copy of the tree at which its journal starts, also beside a
+ * small file. */
 static int make_beside(uint64_t size) { return make_entries(10 * FILES) && make_file(size); }
 
 static int round_of_file(uint64_t size, uint64_t number) { return wrote(mixed(number) % (size * 1024 - PART), PART); }

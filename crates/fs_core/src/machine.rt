@@ -541,8 +541,13 @@ impl Core {
         ensures granted { OnOk result (memory.new ≡ memory.old) }
         ensures refused { OnErr result (memory.new ≢ memory.old) }
     {
-        self.start
-            .advance(alloc, memory, &self.timeline, self.holders.room())?;
+        self.start.advance(
+            alloc,
+            memory,
+            &self.timeline,
+            &self.store,
+            self.holders.room(),
+        )?;
         self.begun = 0;
         self.commits = 0;
         let told = mem::replace(&mut self.timeline, IndexedTimeline::new(alloc));

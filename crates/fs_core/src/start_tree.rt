@@ -7,6 +7,7 @@ ghost use Rattle.fs_timeline.specs.Timeline.{commits};
 use fs_calls::Call;
 use fs_index::IndexedTimeline;
 use fs_memory::Memory;
+use fs_nodes::{NodeNo, Store};
 use fs_seq::SeqTree;
 use std::alloc::{AllocError, Global};
 use std::marker::Model;
@@ -15,6 +16,9 @@ use std::mem;
 /// As many nodes are copied in the time in which a commit is played.
 const NODES_TO_A_COMMIT: usize = 4;
 
+/// So many bytes of a file cost as much as a node: a copy shares the blocks, and the next write into each of them copies it.
+const BYTES_TO_A_NODE: usize = 4_096;
+
 /// The tree at which the timeline begins. Beside it there may be the same tree once more, on which the timeline's commits are
 /// played when it begins again. So that costs what was committed, however large the tree is, and an error leaves this one.
 #[derive(Drop)]
@@ -22,6 +26,17 @@ pub struct StartTree {
     tree: SeqTree,
     // Of its value it is no part.
     twin: Option<SeqTree>,
+    // How many nodes were copied in the time in which the tree was copied last. Of its value it is no part.
+    cost: usize,
+}
+
+/// How many nodes are copied in the time in which a tree is copied that a store spells, with so many nodes at the most.
+fn cost(store: &Store, nodes: usize) -> usize {
+    let mut cost = nodes;
+    for node in 0..nodes {
+        cost = cost.saturating_add(store.len(NodeNo::new(node)) / BYTES_TO_A_NODE);
+    }
+    cost
 }
 
 impl Model for StartTree {
@@ -78,7 +93,11 @@ impl StartTree {
     pub fn new(tree: SeqTree) -> StartTree
         ensures { result ≡ tree }
     {
-        StartTree { tree, twin: None }
+        StartTree {
+            tree,
+            twin: None,
+            cost: 0,
+        }
     }
 
     /// The tree.
@@ -96,13 +115,15 @@ impl StartTree {
         tree
     }
 
-    /// The tree that the timeline's commits play is the one from now on. A tree of so many nodes is copied for it, unless the
-    /// commits were few the last time: then they were played on both. The only error is out of memory, and by it nothing changes.
+    /// The tree that the timeline's commits play is the one from now on. A store spells it, with so many nodes at the most. The
+    /// tree is copied for that, unless the commits were few the last time: then they were played on both. The only error is out of
+    /// memory, and by it nothing changes.
     pub fn advance(
         &mut self,
         alloc: Global,
         memory: &mut Memory,
         timeline: &IndexedTimeline,
+        store: &Store,
         nodes: usize,
     ) -> Result<(), AllocError>
         ensures tree { OnOk result (self.new ≡ next_start self.old (commits timeline.now.entries)) }
@@ -112,11 +133,14 @@ impl StartTree {
     {
         let mut ahead = match self.twin.take() {
             Some(twin) => twin,
-            None => self.tree.copy_counted(memory)?,
+            None => {
+                self.cost = cost(store, nodes);
+                self.tree.copy_counted(memory)?
+            }
         };
         play(alloc, memory, &mut ahead, timeline)?;
         let behind = mem::replace(&mut self.tree, ahead);
-        if timeline.commits() <= nodes / NODES_TO_A_COMMIT {
+        if timeline.commits() <= self.cost.max(nodes) / NODES_TO_A_COMMIT {
             self.twin = caught_up(alloc, behind, timeline);
         }
         Ok(())
