@@ -108,7 +108,7 @@ fn begin(alloc: Global, core: &mut Core, seat: SeatNo, call: &Call) -> Result<()
 /// A call goes on to its return.
 fn end(core: &mut Core, seat: SeatNo) -> Result<()> {
     for _step in 0..MOST_STEPS {
-        ensure!(seat.get() < core.seats() as u64, "a seat");
+        ensure!(core.has_seat(seat), "a seat");
         if let Stepped::Returned(_) = core.step(seat) {
             return Ok(());
         }
@@ -141,7 +141,7 @@ pub fn begin_again(alloc: Global, core: &mut Core) -> Result<u64> {
 fn play_on(alloc: Global, core: &mut Core, calls: &[Call]) -> Result<u64> {
     let seat = seat(core)?;
     for call in calls {
-        ensure!(seat.get() < core.seats() as u64, "a seat");
+        ensure!(core.has_seat(seat), "a seat");
         begin(alloc, core, seat, call)?;
         end(core, seat)?;
     }

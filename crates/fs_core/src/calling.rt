@@ -39,7 +39,7 @@ impl Core {
     }
 
     /// Steps of a seat with a pending call, until it returns or waits: its reply, or the number of the call it waits for.
-    fn finish(&mut self, seat: SeatNo) -> Result<Reply, CallNo>
+    pub fn finish(&mut self, seat: SeatNo) -> Result<Reply, CallNo>
         requires seat { seat < length self.old.seats }
         requires under_way { IsSome ((state_of self.old).on_seat seat) }
         ensures returned { IfOk result (λ reply. StepsTo seat reply (state_of self.new) (state_of self.old)) }

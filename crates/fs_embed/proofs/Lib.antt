@@ -1,4 +1,3 @@
 mod ShownLemmas
 mod KeepingLemmas
-mod Running
 mod Progress

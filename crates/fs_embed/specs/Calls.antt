@@ -6,11 +6,12 @@ use Rattle.fs_calls.specs.declared.call.Call.{Call}
 use Rattle.fs_calls.specs.declared.reply.Reply.{Reply}
 use Rattle.fs_words.specs.declared.fault.FaultKind.{FaultKind}
 use Rattle.fs_words.specs.declared.fault.FaultKind.TheVariants as kind
-use Rattle.fs_laws.specs.OneCall.{IsNoReturn, StepsTo}
+use Rattle.fs_laws.specs.OneCall.{StepsTo}
 use Rattle.fs_laws.specs.Progress.{GoesOn}
 use Rattle.fs_laws.specs.StepsLeft.{steps_left, first_steps}
 use Rattle.fs_machine.specs.States.{State, Begins, Step}
 use Rattle.fs_core.specs.CoreValues.{CoreValue, state_of}
+use Rattle.fs_core.specs.Calls.{Steps, IsWaiting}
 use Rattle.fs_machine.specs.declared.answers.Refusal.{Refusal}
 use Rattle.fs_machine.specs.declared.answers.Refusal.TheVariants.{OutOfMemory, SeatBusy, Full}
 use Rattle.fs_machine.specs.declared.answers.Stepped.{Stepped}
@@ -55,18 +56,9 @@ IsNotBegun old seat given (not_begun.Unread k) new = IsNoCall (given old.start.l
 IsNotBegun old seat given not_begun.NoSuchCall new = (call : Call) × (given old.start.limits ≡ Ok call) × (has_call old.start.limits call ≡ false) × (new ≡ old)
 IsNotBegun old seat given (not_begun.Refused refusal) new = (call : Call) × Asks given old.start.limits call × Begins (state_of old) seat call (Err refusal) (state_of new) × IsCounted refusal old.refusals new.refusals
 
--- steps of a seat, none or more, of which none returns
-pub data Steps (seat : ℕ) : State → State → Type 0 where
-  Still : {state : State} → Steps seat state state
-  Then : {old middle new : State} (answer : Stepped) → IsNoReturn answer → Steps seat old middle → Step middle seat answer new → Steps seat old new
-
 -- the call that is asked for begins under a number, and steps of its seat follow, up to the one that returns with this reply; no memory was refused
 abbrev pub RunsCall : CoreValue → ℕ → Asked → ℕ → Reply → CoreValue → Type 0
 RunsCall old seat given number reply new = (first : State) × Opens old seat given number first × StepsTo seat reply (state_of new) first × (new.refusals ≡ old.refusals)
-
--- the next step of a seat finds a node held by this call, and changes nothing
-abbrev pub IsWaiting : State → ℕ → ℕ → Type 0
-IsWaiting state seat holder = (node : ℕ) × Step state seat (Busy node holder) state
 
 -- the call that is asked for begins under a number, and steps of its seat follow, up to one that finds a node held by this call; no memory was refused
 abbrev pub WaitsCall : CoreValue → ℕ → Asked → ℕ → ℕ → CoreValue → Type 0

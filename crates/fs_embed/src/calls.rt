@@ -1,11 +1,10 @@
 //! Calls that a caller asks for: their begins, their steps and whole runs of them.
 
-ghost use Rattle.std.specs.Prelude.{◌≡◌, ◌<◌, ◌≤◌, ℕ, length, IfOk, OnOk, IfErr, IfSome, IsSome, MatchOption, MatchBool};
-ghost use Rattle.fs_laws.specs.OneCall.{StepsTo};
+ghost use Rattle.std.specs.Prelude.{◌≡◌, ◌<◌, ◌≤◌, ℕ, length, IfOk, OnOk, IfErr, IfSome, MatchOption};
 ghost use Rattle.fs_machine.specs.States.{Step};
 ghost use Rattle.fs_core.specs.CoreValues.{state_of, IsAtRest};
 ghost use Rattle.fs_embed.specs.Requests.{asked};
-ghost use Rattle.fs_embed.specs.Calls.{BeginsCall, IsNotBegun, RunsCall, IsNotReturned, Steps, IsWaiting, StepsAs, StandsStill, GoesOnAs, LeavesFewer, LeavesNone, code_of, about_of};
+ghost use Rattle.fs_embed.specs.Calls.{BeginsCall, IsNotBegun, RunsCall, IsNotReturned, StepsAs, StandsStill, GoesOnAs, LeavesFewer, LeavesNone, code_of, about_of};
 
 use crate::request::{Request, has_call};
 use fs_calls::Reply;
@@ -51,13 +50,6 @@ pub struct StepTold {
     pub about: u64,
 }
 
-/// Whether a core has this seat.
-fn has_seat(core: &Core, seat: SeatNo) -> bool
-    ensures { MatchBool result (seat < length core.now.seats) (length core.now.seats ≤ seat) }
-{
-    seat.get() < core.seats() as u64
-}
-
 /// Begins the call that is asked for on a seat, and answers its number. Whether there is the seat is looked at first, then what
 /// was asked for, then whether the limits have the call: all of that before anything begins.
 pub fn begin_call(
@@ -71,7 +63,7 @@ pub fn begin_call(
     ensures refused { IfErr result (λ why. IsNotBegun core.old seat (asked request.entry) why core.new) }
     ensures seats { length core.new.seats ≡ length core.old.seats }
 {
-    if !has_seat(core, seat) {
+    if !core.has_seat(seat) {
         return Err(NotBegun::NoSeat);
     }
     let limits = core.start().limits();
@@ -86,25 +78,6 @@ pub fn begin_call(
     match core.begin(alloc, seat, &call) {
         Ok(number) => Ok(number),
         Err(refusal) => Err(NotBegun::Refused(refusal)),
-    }
-}
-
-/// Steps of a seat with a pending call, until it returns or waits: its reply, or the number of the call it waits for.
-fn finish(core: &mut Core, seat: SeatNo) -> Result<Reply, CallNo>
-    requires seat { seat < length core.old.seats }
-    requires under_way { IsSome ((state_of core.old).on_seat seat) }
-    ensures returned { IfOk result (λ reply. StepsTo seat reply (state_of core.new) (state_of core.old)) }
-    ensures waits { IfErr result (λ holder. Steps seat (state_of core.old) (state_of core.new) × IsWaiting (state_of core.new) seat holder) }
-    ensures refusals { core.new.refusals ≡ core.old.refusals }
-    ensures seats { length core.new.seats ≡ length core.old.seats }
-{
-    'steps: loop {
-        core.told();
-        match core.step(seat) {
-            Stepped::Returned(reply) => return Ok(reply),
-            Stepped::Busy(_, holder) => return Err(holder),
-            _ => {}
-        }
     }
 }
 
@@ -124,7 +97,7 @@ pub fn run_call(
         Ok(number) => number,
         Err(why) => return Err(NotReturned::NotBegun(why)),
     };
-    match finish(core, seat) {
+    match core.finish(seat) {
         Ok(reply) => Ok(Returned { number, reply }),
         Err(holder) => Err(NotReturned::Waits(number, holder)),
     }
@@ -155,7 +128,7 @@ pub fn step_of(core: &mut Core, seat: SeatNo) -> Option<Stepped>
     ensures step { MatchOption result ((length core.old.seats ≤ seat) × (core.new ≡ core.old)) (λ stepped. Step (state_of core.old) seat stepped (state_of core.new)) }
     ensures seats { length core.new.seats ≡ length core.old.seats }
 {
-    if !has_seat(core, seat) {
+    if !core.has_seat(seat) {
         return None;
     }
     Some(core.step(seat))
@@ -166,7 +139,7 @@ pub fn step_seat(core: &mut Core, seat: SeatNo) -> Option<StepTold>
     ensures step { MatchOption result ((length core.old.seats ≤ seat) × (core.new ≡ core.old)) (λ step. StepsAs core.old seat step.code step.about core.new) }
     ensures seats { length core.new.seats ≡ length core.old.seats }
 {
-    if !has_seat(core, seat) {
+    if !core.has_seat(seat) {
         return None;
     }
     Some(StepTold::of(&core.step(seat)))

@@ -142,7 +142,7 @@ impl<N: Named> Board<N> {
     {
         let Board { core, .. } = self;
         core.told();
-        if seat.get() >= core.seats() as u64 {
+        if !core.has_seat(seat) {
             return Err(Refusal::SeatBusy);
         }
         core.begin(alloc, seat, call)
@@ -158,7 +158,7 @@ impl<N: Named> Board<N> {
     {
         let Board { core, .. } = self;
         core.told();
-        if seat.get() >= core.seats() as u64 {
+        if !core.has_seat(seat) {
             return Stepped::Idle;
         }
         advance(core, seat)

@@ -1,5 +1,5 @@
 use Rattle.fs_core.specs.CoreValues.{state_of}
-use Rattle.fs_embed.proofs.Running.{seated}
+use Rattle.fs_core.proofs.ToReturns.{seated}
 use Rattle.fs_embed.proofs.calls.run_call.Goals as goal
 
 pub finish-requires-clause-under_way : goal.finish-requires-clause-under_way
