@@ -6,6 +6,7 @@ and the second one empties what the first has written.
 
 The repair asks and makes in one call: `open` with mode "x" raises `FileExistsError` where the file is there.
 """
+import functools
 import os
 
 import race
@@ -18,26 +19,20 @@ def before():
 
 
 def lead(name):
-    def function():
-        if os.path.exists(LEADER):
-            return False
-        with open(LEADER, "w") as file:
-            file.write(name)
-        return True
-
-    return function
+    if os.path.exists(LEADER):
+        return False
+    with open(LEADER, "w") as file:
+        file.write(name)
+    return True
 
 
 def lead_alone(name):
-    def function():
-        try:
-            with open(LEADER, "x") as file:
-                file.write(name)
-        except FileExistsError:
-            return False
-        return True
-
-    return function
+    try:
+        with open(LEADER, "x") as file:
+            file.write(name)
+    except FileExistsError:
+        return False
+    return True
 
 
 def check(tree, replies):
@@ -45,8 +40,8 @@ def check(tree, replies):
     assert tree.read_text("/leader") == leader
 
 
-THREADS = {"ann": lead("ann"), "bob": lead("bob")}
-REPAIRED = {"ann": lead_alone("ann"), "bob": lead_alone("bob")}
+THREADS = {name: functools.partial(lead, name) for name in ("ann", "bob")}
+REPAIRED = {name: functools.partial(lead_alone, name) for name in ("ann", "bob")}
 
 if __name__ == "__main__":
     raise SystemExit(race.main(__name__))

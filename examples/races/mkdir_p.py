@@ -6,9 +6,12 @@ what it wanted is there.
 
 The repair takes that error as success, as `os.makedirs` does with `exist_ok=True`.
 """
+import functools
 import os
 
 import race
+
+PATHS = {"ann": "a/b/c", "bob": "a/b/d"}
 
 
 def before():
@@ -16,18 +19,15 @@ def before():
 
 
 def make(path):
-    def function():
-        at = "/sandbox"
-        for name in path.split("/"):
-            at = os.path.join(at, name)
-            if not os.path.isdir(at):
-                os.mkdir(at)
-
-    return function
+    at = "/sandbox"
+    for name in path.split("/"):
+        at = os.path.join(at, name)
+        if not os.path.isdir(at):
+            os.mkdir(at)
 
 
 def make_all(path):
-    return lambda: os.makedirs(os.path.join("/sandbox", path), exist_ok=True)
+    os.makedirs(os.path.join("/sandbox", path), exist_ok=True)
 
 
 def check(tree, replies):
@@ -35,8 +35,8 @@ def check(tree, replies):
     assert list(tree) == ["/", "/a", "/a/b", "/a/b/c", "/a/b/d"], list(tree)
 
 
-THREADS = {"ann": make("a/b/c"), "bob": make("a/b/d")}
-REPAIRED = {"ann": make_all("a/b/c"), "bob": make_all("a/b/d")}
+THREADS = {name: functools.partial(make, path) for name, path in PATHS.items()}
+REPAIRED = {name: functools.partial(make_all, path) for name, path in PATHS.items()}
 
 if __name__ == "__main__":
     raise SystemExit(race.main(__name__))

@@ -1,13 +1,15 @@
 """Plays a race of this folder: what each program here does when it is run.
 
-    python3 examples/races/lost_update.py                          the race, cut down
-    python3 examples/races/lost_update.py --repaired --runs 10000  the repair, which passes
+    python3 examples/races/lost_update.py                                      the race, cut down
+    python3 examples/races/lost_update.py --repaired --runs 10000 --workers 4  the repair, which passes
 
 Exit status: 0 no race was found; 1 one was; 2 a usage error, or the package atomfs is missing.
 
 A race is a module with the functions THREADS, those of its repair REPAIRED, `before`, which prepares the tree, and `check`.
 """
 import argparse
+import concurrent.futures
+import contextlib
 import sys
 
 try:
@@ -41,6 +43,11 @@ def passes(module, runs=1_000, seed=1, **more):
     return atomfs.explore(module.REPAIRED, module.check, runs, seed, **options(module), **more)
 
 
+def workers(count):
+    """What makes runs on so many cores: an executor of processes, or with one core none."""
+    return concurrent.futures.ProcessPoolExecutor(count) if count > 1 else contextlib.nullcontext()
+
+
 def main(name):
     """Plays the race of a module, by the words of the command line."""
     module = sys.modules[name]
@@ -48,10 +55,12 @@ def main(name):
     parser.add_argument("--repaired", action="store_true", help="run the repair")
     parser.add_argument("--runs", type=int, default=1_000, help="how many runs at most (1,000)")
     parser.add_argument("--seed", type=int, default=1, help="the seed of the first run (1)")
+    parser.add_argument("--workers", type=int, default=1, help="how many processes make the runs (1)")
     words = parser.parse_args()
-    if words.repaired:
-        print(passes(module, words.runs, words.seed).summary)
-        return 0
-    error = find(module, words.runs, words.seed)
+    with workers(words.workers) as executor:
+        if words.repaired:
+            print(passes(module, words.runs, words.seed, executor=executor).summary)
+            return 0
+        error = find(module, words.runs, words.seed, executor=executor)
     print(error if error is not None else f"no race in {words.runs:,} runs")
     return int(error is not None)

@@ -1,8 +1,13 @@
-"""The races of examples/races: each is found, made again and cut down, and its repair passes."""
+"""The races of examples/races: each is found, made again and cut down, and its repair passes.
+
+ATOMFS_RACES says how many runs of each repair are made.
+"""
+import concurrent.futures
 import contextlib
 import importlib
 import importlib.util
 import io
+import os
 import pathlib
 import re
 import subprocess
@@ -15,8 +20,8 @@ import atomfs
 
 FOLDER = pathlib.Path(__file__).resolve().parents[3] / "examples" / "races"
 NAMES = sorted(path.stem for path in FOLDER.glob("*.py") if path.stem != "race")
-# How many runs of each repair: all 10,000 were made by hand.
-RUNS = 200
+# How many runs of each repair.
+RUNS = int(os.environ.get("ATOMFS_RACES", "10000"))
 # Of each the switches between threads that are left, and its calls by the names that they have in a script.
 LEFT = {
     "exists_then_create": (2, "stat stat mknod write mknod stat truncate write"),
@@ -91,11 +96,22 @@ class Races(unittest.TestCase):
                     self.assertEqual(str(again.__cause__), str(error.__cause__))
 
     def test_repaired(self) -> None:
-        for name in NAMES:
-            with self.subTest(name):
-                seen = self.race.passes(importlib.import_module(name), RUNS)
-                self.assertEqual(seen, RUNS)
-                self.assertGreaterEqual(seen.pairs, seen.met)
+        """Each repair passes so many runs, which the processes of all cores make."""
+        modules = [importlib.import_module(name) for name in NAMES]
+        with concurrent.futures.ProcessPoolExecutor(os.cpu_count()) as executor:
+            for module in modules:
+                with self.subTest(module.__name__):
+                    seen = self.race.passes(module, RUNS, executor=executor)
+                    self.assertEqual(seen, RUNS)
+                    self.assertGreaterEqual(seen.pairs, seen.met)
+
+    def test_repair_of_one(self) -> None:
+        """By one process it is the same."""
+        for name in ("listing_in_pages", "stale_lock"):
+            module = importlib.import_module(name)
+            with concurrent.futures.ProcessPoolExecutor(2) as executor:
+                seen = self.race.passes(module, 200, executor=executor)
+            self.assertEqual(self.race.passes(module, 200).summary, seen.summary)
 
     def test_programs(self) -> None:
         """Each is a program that tells its race, and its repair how much was seen."""
@@ -103,8 +119,11 @@ class Races(unittest.TestCase):
         ran = subprocess.run(words, capture_output=True, text=True)
         self.assertEqual(ran.returncode, 1, ran.stderr)
         self.assertIn("os.mkdir(at)               mkdir /a: failed EEXIST\n", ran.stdout)
-        ran = subprocess.run([*words, "--repaired", "--runs", "50", "--seed", "9"], capture_output=True, text=True)
-        self.assertEqual(ran.stdout, "50 runs, 1 outcome, 1 new in the last 50 runs; 0 of 0 pairs of calls met\n")
+        for workers in ([], ["--workers", "2"]):
+            ran = subprocess.run(
+                [*words, "--repaired", "--runs", "50", "--seed", "9", *workers], capture_output=True, text=True
+            )
+            self.assertEqual(ran.stdout, "50 runs, 1 outcome, 1 new in the last 50 runs; 0 of 0 pairs of calls met\n")
 
     def test_table(self) -> None:
         """The page names each, and nothing else."""
