@@ -509,6 +509,28 @@ class ForRust(Installed):
         ]
         self.assertTrue(len(passed) >= 4 and sum(count > 0 for count in passed) >= 3, told)
 
+    def test_races(self) -> None:
+        """Its program of races finds one, runs a repair, and says how it is used."""
+        wanted("cargo", "cc")
+        crate = self.prefix / "share" / "atomfs" / "rust"
+        words = "cargo", "run", "--offline", "--quiet", "--example", "races"
+        rows = (
+            (("mkdir_p",), 1, r"^seed \d+: (ann|bob): .*EEXIST.*\n(.*\n)*script:\natomfs 3\n"),
+            (
+                ("mkdir_p", "repair", "50"),
+                0,
+                r"^50 runs, \d outcomes?, \d new in the last 50 runs; \d of 4 pairs of calls met\n$",
+            ),
+            (("mkdir_p", "twice"), 2, r"^usage: cargo run --example races NAME .*NAME is exists_then_create, "),
+            (("mkdirs",), 2, "^usage: "),
+            ((), 2, "^usage: "),
+        )
+        for more, wanted_status, pattern in rows:
+            with self.subTest(more):
+                status, told = done([*words, *more], crate, CARGO_TARGET_DIR=str(self.folder / "target"))
+                self.same("the status", status, wanted_status)
+                self.assertRegex(told, pattern)
+
     def test_clippy(self) -> None:
         """Rust's own linter has nothing to say of the crate, its tests and its examples, and each unsafe block has its reason."""
         wanted("cargo", "cargo-clippy")

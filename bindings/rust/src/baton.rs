@@ -25,6 +25,8 @@ pub(crate) struct Stopped;
 pub(crate) struct Event {
     pub(crate) thread: usize,
     pub(crate) call: u64,
+    /// Which of the twelve calls it is, as a number.
+    pub(crate) kind: u8,
     did: Option<Did>,
     at: &'static Location<'static>,
 }
@@ -32,6 +34,11 @@ pub(crate) struct Event {
 impl Event {
     pub(crate) fn is_begin(&self) -> bool {
         self.did.is_none()
+    }
+
+    /// Whether the call is pending no more.
+    pub(crate) fn is_end(&self) -> bool {
+        matches!(self.did, Some(Did::Returned | Did::Idle))
     }
 
     /// The line of the source that made the call.
@@ -285,7 +292,7 @@ fn over() -> Error {
 
 impl Calls for ThreadTree {
     fn call(&mut self, call: &Call) -> Result<Reply, Error> {
-        let (me, seat, at) = (self.me, self.seat, self.at);
+        let (me, seat, at, kind) = (self.me, self.seat, self.at, call.request().call);
         let mut state = self.turn_to_go()?;
         let thread = place(me, &state);
         let number = match state.tree.as_mut().map(|tree| tree.begin(seat, call)) {
@@ -295,7 +302,7 @@ impl Calls for ThreadTree {
                 return Err(over());
             }
         };
-        state.events.push(Event { thread, call: number, did: None, at });
+        state.events.push(Event { thread, call: number, kind, did: None, at });
         loop {
             drop(state);
             state = self.turn_to_go()?;
@@ -306,7 +313,7 @@ impl Calls for ThreadTree {
                     return Err(over());
                 }
             };
-            state.events.push(Event { thread, call: number, did: Some(did), at });
+            state.events.push(Event { thread, call: number, kind, did: Some(did), at });
             match did {
                 Did::WaitsFor(_) => state.waits[thread] = true,
                 Did::LetGo(_) => state.waits.fill(false),

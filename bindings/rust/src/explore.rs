@@ -14,6 +14,7 @@ use crate::baton::{Baton, Event, Stopped, ThreadTree};
 use crate::draws::Chooser;
 use crate::limits::Limits;
 use crate::page::{page_with, sources};
+use crate::seen::{grouped, Explored, Look, Meetings};
 use crate::texts::{self, Schedule};
 use crate::tree::Tree;
 use crate::NODE_LIMIT;
@@ -22,8 +23,8 @@ use crate::NODE_LIMIT;
 const EVENTS: u64 = 100_000;
 /// How long a function may make no call, unless the plan says so.
 const PATIENCE: Duration = Duration::from_secs(10);
-/// How many runs are made at most to cut a schedule down.
-const TRIALS: u64 = 1_000;
+/// How many events of a run that never ends are shown: its last.
+const SHOWN: usize = 40;
 
 /// How schedules are drawn.
 #[derive(Clone, Copy, Debug, Default, PartialEq, Eq)]
@@ -169,6 +170,21 @@ impl<'p, R> Plan<'p, R> {
         self
     }
 
+    /// What looks at a run that passes its check, if the plan has one.
+    pub(crate) fn observed(&mut self, look: impl FnOnce(&mut Tree, &Replies<R>) + 'p)
+    where
+        R: 'p,
+    {
+        let check = self.check.take();
+        self.check = Some(Box::new(move |tree, replies| {
+            let fault = check.and_then(|check| check(tree, replies));
+            if fault.is_none() {
+                look(tree, replies);
+            }
+            fault
+        }));
+    }
+
     /// Why this is no plan.
     fn fault(&self) -> Option<String> {
         if self.threads.is_empty() {
@@ -208,6 +224,8 @@ pub enum ScheduleFault {
     ChangedByCheck,
     /// There was no run: why the plan, the seeds or the schedule are not valid, or a worker gave up.
     NoPlan(String),
+    /// What was to come in some run came in none: what was observed instead, as a table.
+    NeverCame(String),
 }
 
 impl fmt::Display for ScheduleFault {
@@ -219,6 +237,7 @@ impl fmt::Display for ScheduleFault {
             ScheduleFault::Stuck(name) => write!(f, "thread {name} makes no call and does not end"),
             ScheduleFault::ChangedByCheck => f.write_str("the check changed the tree"),
             ScheduleFault::NoPlan(why) => f.write_str(why),
+            ScheduleFault::NeverCame(table) => write!(f, "it came in none of these:\n{table}"),
         }
     }
 }
@@ -235,7 +254,8 @@ pub struct FailedRun {
     pub fault: ScheduleFault,
     /// The seed from which it was drawn; none if the schedule was given.
     pub seed: Option<u64>,
-    /// The schedule, for [`replay`], for example `a*7 b*9 a`. Each word is a thread and how many events of it.
+    /// The schedule, for [`replay`], for example `a*7 b*9 a`. Each word is a thread and how many events of it. If the run
+    /// never ends, these are the events after which it does not.
     pub schedule: String,
     /// How many runs it took to cut it down.
     pub trials: u64,
@@ -252,12 +272,20 @@ pub struct FailedRun {
 impl ScheduleError {
     /// The error of no run.
     pub(crate) fn none(why: impl Into<String>) -> ScheduleError {
-        ScheduleError::new(ScheduleFault::NoPlan(why.into()), None)
+        ScheduleError::of(ScheduleFault::NoPlan(why.into()))
     }
 
-    fn new(fault: ScheduleFault, seed: Option<u64>) -> ScheduleError {
+    /// The error of no run in particular.
+    pub(crate) fn of(fault: ScheduleFault) -> ScheduleError {
         let (schedule, trace, journal, made_at) = (String::new(), Vec::new(), String::new(), Vec::new());
-        ScheduleError(Box::new(FailedRun { fault, seed, schedule, trials: 0, trace, journal, script: None, made_at }))
+        let (seed, script) = (None, None);
+        ScheduleError(Box::new(FailedRun { fault, seed, schedule, trials: 0, trace, journal, script, made_at }))
+    }
+
+    /// The same with the words of another schedule.
+    pub(crate) fn scheduled(mut self, schedule: String) -> ScheduleError {
+        self.0.schedule = schedule;
+        self
     }
 
     /// A picture of the run, as an SVG file.
@@ -287,17 +315,22 @@ impl fmt::Display for ScheduleError {
             Some(seed) => writeln!(f, "seed {seed}: {}", self.fault)?,
             None => writeln!(f, "{}", self.fault)?,
         }
-        if self.schedule.is_empty() {
+        if self.trace.is_empty() {
             return Ok(());
         }
         writeln!(f, "schedule, cut down in {} runs: {}", self.trials, self.schedule)?;
-        for line in &self.trace {
+        let never_ends = matches!(self.fault, ScheduleFault::NeverEnds(_));
+        let hidden = if never_ends { self.trace.len().saturating_sub(SHOWN) } else { 0 };
+        if hidden > 0 {
+            writeln!(f, "    .. {} events before these", grouped(hidden as u64))?;
+        }
+        for line in self.trace.iter().skip(hidden) {
             writeln!(f, "    {line}")?;
         }
         writeln!(f, "journal: {}", texts::check(&self.journal).unwrap_or_else(|error| error.to_string()))?;
         match &self.script {
-            Some(script) => write!(f, "script:\n{script}"),
-            None => Ok(()),
+            Some(script) if hidden == 0 => write!(f, "script:\n{script}"),
+            _ => Ok(()),
         }
     }
 }
@@ -311,29 +344,18 @@ impl fmt::Debug for ScheduleError {
 
 impl std::error::Error for ScheduleError {}
 
-/// What was seen, if no run failed.
-#[derive(Clone, Copy, Debug, PartialEq, Eq)]
-pub struct Explored {
-    /// How many runs there were.
-    pub runs: u64,
-    /// How many different outcomes there were, which differ in replies of calls or in the tree.
-    pub outcomes: usize,
-    /// The last seed that brought a new outcome.
-    pub last_new: u64,
-}
-
 impl Ran {
-    /// What is to be small: how often another thread goes, and how many events there are.
-    fn size(&self) -> (usize, usize) {
-        (switches(&self.order), self.order.len())
+    /// What met in it.
+    pub(crate) fn meetings(&self) -> Meetings {
+        Meetings::of(&self.events, self.names.len())
     }
 }
 
 /// What came of a run.
 pub(crate) struct Ran {
     pub(crate) fault: Option<ScheduleFault>,
-    names: Vec<String>,
-    order: Vec<usize>,
+    pub(crate) names: Vec<String>,
+    pub(crate) order: Vec<usize>,
     before: usize,
     events: Vec<Event>,
     journal: String,
@@ -368,24 +390,20 @@ pub fn explore<'p, R: Send + 'static>(
     seeds: Range<u64>,
     mut plan: impl FnMut(&mut Plan<'p, R>),
 ) -> Result<Explored, ScheduleError> {
-    let mut player = Player { made: &mut plan };
+    let mut player = Player::of(&mut plan);
     let drawn = player.drawn(&seeds)?;
-    let runs = seeds.end - seeds.start;
-    let bar = Bar::of(runs);
-    let mut outcomes = BTreeSet::new();
-    let mut last_new = seeds.start;
-    for seed in seeds {
+    let bar = Bar::of(seeds.end - seeds.start);
+    let mut look = Look::new();
+    for seed in seeds.clone() {
         let ran = player.run_of(&drawn, seed)?;
         if ran.fault.is_some() {
             drop(bar);
             return Err(player.cut_down(ran, seed));
         }
-        if outcomes.insert(outcome_of(&ran)) {
-            last_new = seed;
-        }
+        look.add(seed, end_of(&ran), ran.meetings());
         bar.add();
     }
-    Ok(Explored { runs, outcomes: outcomes.len(), last_new })
+    Ok(look.seen(&seeds))
 }
 
 /// Runs a plan under a schedule, for example that of a [`ScheduleError`]. Words of threads that have ended are skipped.
@@ -394,7 +412,7 @@ pub fn replay<'p, R: Send + 'static>(
     schedule: &str,
     mut plan: impl FnMut(&mut Plan<'p, R>),
 ) -> Result<(), ScheduleError> {
-    let mut player = Player { made: &mut plan };
+    let mut player = Player::of(&mut plan);
     let names = player.names()?;
     let order = order_of(schedule, &names).map_err(ScheduleError::none)?;
     let ran = player.run(Chooser::given(order), true)?;
@@ -404,10 +422,10 @@ pub fn replay<'p, R: Send + 'static>(
     }
 }
 
-/// The replies of a run in the order of its threads' calls, and its tree.
-pub(crate) type Outcome = (Vec<(usize, String)>, String);
+/// How a run ended: its replies in the order of its threads' calls, and its tree.
+pub(crate) type End = (Vec<(usize, String)>, String);
 
-pub(crate) fn outcome_of(ran: &Ran) -> Outcome {
+pub(crate) fn end_of(ran: &Ran) -> End {
     let seats: BTreeMap<u64, usize> = ran.events.iter().map(|event| (event.call, event.thread)).collect();
     let replies = ran.journal.lines().filter_map(|line| {
         let (number, reply) = line.strip_prefix("return ")?.split_once(' ')?;
@@ -419,7 +437,7 @@ pub(crate) fn outcome_of(ran: &Ran) -> Outcome {
 }
 
 /// The words of a schedule.
-fn words_of(order: &[usize], names: &[String]) -> String {
+pub(crate) fn words_of(order: &[usize], names: &[String]) -> String {
     let mut words: Vec<(usize, usize)> = Vec::new();
     for thread in order {
         match words.last_mut() {
@@ -448,11 +466,6 @@ fn order_of(schedule: &str, names: &[String]) -> Result<Vec<usize>, String> {
     Ok(order)
 }
 
-/// How often another thread goes than before.
-fn switches(order: &[usize]) -> usize {
-    order.windows(2).filter(|pair| pair[0] != pair[1]).count()
-}
-
 /// By what schedules are drawn: how, for how many threads, and in how many events.
 pub(crate) struct Drawn {
     draws: Draws,
@@ -463,9 +476,15 @@ pub(crate) struct Drawn {
 /// What runs plans.
 pub(crate) struct Player<'m, 'p, R> {
     pub(crate) made: &'m mut dyn FnMut(&mut Plan<'p, R>),
+    /// After a run that passes its check, what is wrong with it all the same.
+    pub(crate) judge: Option<&'m dyn Fn() -> Option<String>>,
 }
 
-impl<'p, R: Send + 'static> Player<'_, 'p, R> {
+impl<'m, 'p, R: Send + 'static> Player<'m, 'p, R> {
+    pub(crate) fn of(made: &'m mut dyn FnMut(&mut Plan<'p, R>)) -> Player<'m, 'p, R> {
+        Player { made, judge: None }
+    }
+
     /// By what the schedules of these seeds are drawn, by a run in which the threads go one after another: by its
     /// events changes of priorities are spread.
     pub(crate) fn drawn(&mut self, seeds: &Range<u64>) -> Result<Drawn, ScheduleError> {
@@ -502,8 +521,14 @@ impl<'p, R: Send + 'static> Player<'_, 'p, R> {
     }
 
     /// One run. The check is made if it is asked for and all functions returned.
-    fn run(&mut self, chooser: Chooser, checked: bool) -> Result<Ran, ScheduleError> {
+    pub(crate) fn run(&mut self, chooser: Chooser, checked: bool) -> Result<Ran, ScheduleError> {
+        self.run_within(chooser, checked, u64::MAX)
+    }
+
+    /// One run of at most so many events, or of fewer if the plan says so.
+    pub(crate) fn run_within(&mut self, chooser: Chooser, checked: bool, most: u64) -> Result<Ran, ScheduleError> {
         let Plan { limit, limits, events, patience, before, threads, check, .. } = self.plan()?;
+        let events = events.min(most);
         let (names, functions): (Vec<String>, Vec<_>) = threads.into_iter().unzip();
         let none = |error: crate::Error| ScheduleError::none(error.to_string());
         let tree = Tree::with_limits(limit, limits).map_err(none)?;
@@ -560,37 +585,14 @@ impl<'p, R: Send + 'static> Player<'_, 'p, R> {
             if fault.is_none() && tree.text_of_tree().map_err(none)? != text {
                 fault = Some(ScheduleFault::ChangedByCheck);
             }
+            if fault.is_none() {
+                fault = self.judge.and_then(|judge| judge()).map(ScheduleFault::Check);
+            }
         }
         Ok(Ran { fault, names, order, before: prepared, events, journal, tree: text })
     }
 
-    /// The error of a run that failed, cut down to the fewest switches between threads, and then to the fewest events.
-    /// It tries runs that let one thread go to its end in the midst of another, and those that leave out or exchange
-    /// parts of the best.
-    pub(crate) fn cut_down(&mut self, ran: Ran, seed: u64) -> ScheduleError {
-        let (mut best, mut trials) = (ran, 0);
-        // A function that is stuck leaves a thread behind, and takes its time.
-        let mut tried = match best.fault {
-            Some(ScheduleFault::Stuck(_)) => Vec::new(),
-            _ => [alone(&best), fewer(&best.order)].concat(),
-        };
-        while let Some(order) = tried.pop() {
-            trials += 1;
-            // What was found is not lost if the plan panics.
-            let came = match quiet(|| self.run(Chooser::given(order), true)) {
-                Ok(Ok(came)) if came.fault.is_some() && came.size() < best.size() => came,
-                _ if trials == TRIALS => break,
-                _ => continue,
-            };
-            best = came;
-            // What lets one thread go in the midst of another has two switches and no fewer.
-            tried.retain(|order| switches(order) < switches(&best.order) || order.len() < best.order.len());
-            tried.extend(fewer(&best.order));
-        }
-        self.error_of(best, Some(seed), trials)
-    }
-
-    fn error_of(&mut self, ran: Ran, seed: Option<u64>, trials: u64) -> ScheduleError {
+    pub(crate) fn error_of(&mut self, ran: Ran, seed: Option<u64>, trials: u64) -> ScheduleError {
         let spelled = spelled(&ran.journal);
         let trace = ran.events.iter().skip(ran.before).map(|event| event.line(&ran.names, &spelled)).collect();
         let schedule = words_of(&ran.order, &ran.names);
@@ -600,37 +602,6 @@ impl<'p, R: Send + 'static> Player<'_, 'p, R> {
         let journal = ran.journal;
         ScheduleError(Box::new(FailedRun { fault, seed, schedule, trials, trace, journal, script, made_at }))
     }
-}
-
-/// Orders that let one thread go to its end after some events of another.
-fn alone(ran: &Ran) -> Vec<Vec<usize>> {
-    let count = |thread: usize| ran.order.iter().filter(|other| **other == thread).count();
-    let threads = 0..ran.names.len();
-    let pairs = threads.clone().flat_map(|one| threads.clone().map(move |other| (one, other)));
-    let orders = pairs.filter(|(one, other)| one != other).flat_map(|(one, other)| {
-        (0..=count(one)).map(move |events| [vec![one; events], vec![other; ran.order.len()]].concat())
-    });
-    orders.collect()
-}
-
-/// Orders with fewer switches: without one of its blocks, whose thread then goes on later, or with two blocks
-/// exchanged, so that those round them are one.
-fn fewer(order: &[usize]) -> Vec<Vec<usize>> {
-    let mut blocks: Vec<Vec<usize>> = Vec::new();
-    for thread in order {
-        match blocks.last_mut() {
-            Some(block) if block[0] == *thread => block.push(*thread),
-            _ => blocks.push(vec![*thread]),
-        }
-    }
-    let prefixes = (0..blocks.len()).map(|end| blocks[..end].concat());
-    let without = (0..blocks.len()).map(|at| [&blocks[..at], &blocks[at + 1..]].concat().concat());
-    let exchanged = (1..blocks.len()).map(|at| {
-        let mut blocks = blocks.clone();
-        blocks.swap(at - 1, at);
-        blocks.concat()
-    });
-    prefixes.chain(without).chain(exchanged).collect()
 }
 
 /// The calls of a journal, as they are spelled there, by their numbers.

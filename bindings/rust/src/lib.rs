@@ -21,7 +21,7 @@
 //! [`Tree::seat`], [`Tree::begin`] and [`Tree::step`] play an interleaving of your own.
 //!
 //! [`explore()`] runs functions of yours on threads, under schedules from a seed, and cuts down the first that fails.
-//! [`explore_on`] does so on several cores.
+//! Several cores do so with [`explore_on`]. What comes of the runs is counted by [`outcomes()`].
 //!
 //! [`check`], [`run`], [`trace`], [`draw`], [`schedule`], [`seeds`], [`linearize`] and [`explain`] are what the program
 //! `atomfs` does with texts. [`page()`] makes a file that plays a run in a browser.
@@ -47,6 +47,7 @@
 mod bar;
 mod baton;
 mod call;
+mod cutting;
 mod draws;
 mod error;
 mod explore;
@@ -56,8 +57,10 @@ mod lent;
 mod limits;
 mod linearize;
 mod methods;
+mod outcomes;
 mod page;
 mod path;
+mod seen;
 mod session;
 mod shared;
 mod texts;
@@ -69,13 +72,15 @@ mod workers;
 pub use baton::ThreadTree;
 pub use call::{Call, Did, Reply, Seat, Stat};
 pub use error::{Errno, Error, ErrorKind, PathFault};
-pub use explore::{explore, replay, Draws, Explored, FailedRun, Plan, Replies, ScheduleError, ScheduleFault, Verdict};
+pub use explore::{explore, replay, Draws, FailedRun, Plan, Replies, ScheduleError, ScheduleFault, Verdict};
 pub use file::{File, OpenOptions};
 pub use lent::Lent;
 pub use limits::{Journal, Limits};
 pub use linearize::{front, linearize, Linearized};
+pub use outcomes::{outcomes, Outcome, Outcomes};
 pub use page::page;
 pub use path::AsPath;
+pub use seen::Explored;
 pub use session::Session;
 pub use shared::SharedTree;
 pub use texts::{check, draw, explain, run, schedule, seeds, trace, Schedule};

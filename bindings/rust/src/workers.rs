@@ -1,12 +1,12 @@
 //! Runs on more than one core: ranges of seeds, each by one worker.
 
-use std::collections::BTreeMap;
 use std::ops::Range;
 use std::sync::{Mutex, MutexGuard, PoisonError};
 use std::thread;
 
 use crate::bar::Bar;
-use crate::explore::{outcome_of, quiet, Drawn, Explored, Outcome, Plan, Player, Ran, ScheduleError};
+use crate::explore::{end_of, quiet, Drawn, End, Plan, Player, Ran, ScheduleError};
+use crate::seen::{Explored, Look};
 
 /// How many runs a worker makes at most before it asks for more.
 const RANGE: u64 = 64;
@@ -38,7 +38,7 @@ pub fn explore_on<'p, R: Send + 'static>(
     plan: impl Fn(&mut Plan<'p, R>) + Sync,
 ) -> Result<Explored, ScheduleError> {
     let mut made = |one: &mut Plan<'p, R>| plan(one);
-    let mut player = Player { made: &mut made };
+    let mut player = Player::of(&mut made);
     let drawn = player.drawn(&seeds)?;
     let runs = seeds.end - seeds.start;
     let workers = match workers {
@@ -46,7 +46,7 @@ pub fn explore_on<'p, R: Send + 'static>(
         workers => workers.min(usize::try_from(runs).unwrap_or(usize::MAX)),
     };
     let most = (runs / RANGES / workers as u64).clamp(1, RANGE);
-    let shared = Mutex::new(Shared { left: seeds, outcomes: BTreeMap::new(), failed: None });
+    let shared = Mutex::new(Shared { left: seeds.clone(), look: Look::new(), failed: None });
     let work = Work { plan: &plan, drawn: &drawn, shared: &shared, bar: Bar::of(runs), most };
     thread::scope(|scope| {
         for _ in 1..workers {
@@ -58,14 +58,11 @@ pub fn explore_on<'p, R: Send + 'static>(
         work.work::<R>();
     });
     drop(work);
-    let Shared { outcomes, failed, .. } = shared.into_inner().unwrap_or_else(PoisonError::into_inner);
+    let Shared { look, failed, .. } = shared.into_inner().unwrap_or_else(PoisonError::into_inner);
     match failed {
         Some((seed, Failed::Ran(ran))) => Err(player.cut_down(*ran, seed)),
         Some((_, Failed::None(error))) => Err(error),
-        None => {
-            let last_new = outcomes.values().copied().max().unwrap_or(0);
-            Ok(Explored { runs, outcomes: outcomes.len(), last_new })
-        }
+        None => Ok(look.seen(&seeds)),
     }
 }
 
@@ -79,8 +76,8 @@ enum Failed {
 struct Shared {
     /// The seeds that nobody has.
     left: Range<u64>,
-    /// The first seed that brought each outcome.
-    outcomes: BTreeMap<Outcome, u64>,
+    /// What was seen.
+    look: Look<End>,
     /// The first seed whose run failed, and how.
     failed: Option<(u64, Failed)>,
 }
@@ -100,11 +97,6 @@ impl Shared {
     /// Whether a seed is to be run: none that failed is less.
     fn goes_on(&self, seed: u64) -> bool {
         self.failed.as_ref().map_or(true, |(failed, _)| seed < *failed)
-    }
-
-    fn passes(&mut self, seed: u64, outcome: Outcome) {
-        let first = self.outcomes.entry(outcome).or_insert(seed);
-        *first = seed.min(*first);
     }
 
     fn fails(&mut self, seed: u64, how: Failed) {
@@ -166,7 +158,7 @@ impl<F> Work<'_, F> {
         F: Fn(&mut Plan<'p, R>),
     {
         let mut plan = |made: &mut Plan<'p, R>| (self.plan)(made);
-        let mut player = Player { made: &mut plan };
+        let mut player = Player::of(&mut plan);
         for seed in range {
             if !self.shared().goes_on(seed) {
                 return;
@@ -174,7 +166,10 @@ impl<F> Work<'_, F> {
             match player.run_of(self.drawn, seed) {
                 Err(error) => return self.shared().fails(seed, Failed::None(error)),
                 Ok(ran) if ran.fault.is_some() => return self.shared().fails(seed, Failed::Ran(Box::new(ran))),
-                Ok(ran) => self.shared().passes(seed, outcome_of(&ran)),
+                Ok(ran) => {
+                    let (end, meetings) = (end_of(&ran), ran.meetings());
+                    self.shared().look.add(seed, end, meetings);
+                }
             }
             self.bar.add();
         }

@@ -1,301 +1,35 @@
-//! Functions under drawn schedules: eight real bugs, each with its repair.
+//! Functions under drawn schedules: what is seen, what fails, and what is no plan. `races.rs` has eight real bugs.
 
+use std::cell::Cell;
 use std::collections::BTreeSet;
-use std::sync::atomic::{AtomicUsize, Ordering};
+use std::env;
+use std::process::Command;
+use std::sync::atomic::{AtomicBool, AtomicUsize, Ordering};
+use std::thread;
 use std::time::Duration;
 
-use atomfs::{
-    explore, explore_on, replay, Call, Draws, Errno, Error, ErrorKind, Plan, ScheduleError, ScheduleFault, ThreadTree,
-};
+use atomfs::{explore, explore_on, outcomes, replay, Call, Draws, Error, ErrorKind, Plan, ScheduleFault, ThreadTree};
 
-const DRAWS: [Draws; 3] = [Draws::Both, Draws::Uniform, Draws::Pct { depth: 3 }];
-/// A bug is found in fewer runs, and its repair passes so many.
+/// A bug is found in fewer runs.
 const FOUND: u64 = 300;
-const PASSED: u64 = 500;
 
-/// Finds a bug by each way of drawing, by one worker and by four, by the same run again and by its schedule; it has a
-/// script and a picture.
-fn is_found<'p, R: Send + 'static>(made: impl Fn(&mut Plan<'p, R>) + Copy + Sync) -> ScheduleError {
-    let mut last = None;
-    for draws in DRAWS {
-        let plan = |plan: &mut Plan<'p, R>| {
-            made(plan);
-            plan.draws(draws);
-        };
-        let error = explore(1..FOUND, plan).unwrap_err();
-        assert!(matches!(error.fault, ScheduleFault::Check(_)), "{error}");
-        let seed = error.seed.unwrap();
-        // Workers take the draws as they are, so one way is enough.
-        for workers in [1, 4].into_iter().filter(|_| draws == Draws::Both) {
-            assert_eq!(explore_on(workers, 1..FOUND, plan).unwrap_err(), error);
-        }
-        assert_eq!(explore(seed..seed + 1, plan).unwrap_err(), error);
-        let again = replay(&error.schedule, plan).unwrap_err();
-        assert_eq!((&again.fault, &again.journal, &again.trace), (&error.fault, &error.journal, &error.trace));
-        let script = error.script.as_ref().expect("a script");
-        assert!(atomfs::run(script).unwrap().starts_with(&error.journal), "{script}");
-        assert_eq!(atomfs::check(&error.journal).unwrap(), "lawful");
-        assert!(error.picture().unwrap().starts_with("<svg "));
-        last = Some(error);
-    }
-    last.unwrap()
-}
-
-fn passes<'p, R: Send + 'static>(plan: impl Fn(&mut Plan<'p, R>) + Sync) {
-    let seen = explore(1..PASSED + 1, &plan).unwrap();
-    assert_eq!(seen.runs, PASSED);
-    assert!(seen.outcomes > 0 && seen.last_new <= PASSED);
-    assert_eq!(explore_on(4, 1..PASSED + 1, plan).unwrap(), seen);
-}
-
-fn number(tree: &mut ThreadTree, path: &str) -> Result<u32, Error> {
-    Ok(String::from_utf8(tree.read(path, 0, 10)?).unwrap().parse().unwrap())
-}
-
-fn tells(tree: &mut atomfs::Tree, path: &str) -> String {
-    String::from_utf8(tree.read_to_end(path).unwrap()).unwrap()
-}
-
-/// What a thread does behind a lock: a directory that only one can make.
-fn locked(tree: &mut ThreadTree, path: &str, act: impl FnOnce(&mut ThreadTree)) {
-    while let Err(error) = tree.mkdir(path) {
-        assert_eq!(error.errno(), Some(Errno::EEXIST));
-        tree.turn();
-    }
-    act(tree);
-    tree.rmdir(path).unwrap();
-}
-
-fn lost_update(plan: &mut Plan<'_, Result<u64, Error>>, with_lock: bool) {
+/// Two threads read a number, add one, and write it.
+fn lost_update(plan: &mut Plan<'_, Result<u64, Error>>) {
     plan.before(|tree| tree.write_file("/n", "0").unwrap());
     for name in ["a", "b"] {
-        plan.thread(name, move |tree| {
-            let mut came = Ok(0);
-            let mut add = |tree: &mut ThreadTree| {
-                came = number(tree, "/n").and_then(|n| tree.write("/n", 0, (n + 1).to_string()));
-            };
-            match with_lock {
-                true => locked(tree, "/lock", add),
-                false => add(tree),
-            }
-            came
+        plan.thread(name, |tree| {
+            let n: u64 = String::from_utf8(tree.read("/n", 0, 10)?).unwrap().parse().unwrap();
+            tree.write("/n", 0, (n + 1).to_string())
         });
     }
-    plan.check(|tree, _| match tells(tree, "/n").as_str() {
-        "2" => Ok(()),
+    plan.check(|tree, _| match number(tree) {
+        2 => Ok(()),
         other => Err(format!("the counter is {other}")),
     });
 }
 
-#[test]
-fn a_lost_update() {
-    let error = is_found(|plan| lost_update(plan, false));
-    assert_eq!(error.fault, ScheduleFault::Check("the counter is 1".to_owned()));
-    // Cut down: one thread reads, the other adds, the first goes on.
-    assert_eq!(error.schedule.split(' ').count(), 3, "{error}");
-    assert!(error.trace.iter().all(|line| line.contains("tests/explore.rs:")), "{error}");
-    assert!(error.trace.iter().any(|line| line.ends_with("read /n 0 10: begins")), "{error}");
-    passes(|plan| lost_update(plan, true));
-}
-
-fn exists_then_create(plan: &mut Plan<'_, Result<(), Error>>, exclusive: bool) {
-    for name in ["a", "b"] {
-        plan.thread(name, move |tree| {
-            let is_there = !exclusive && tree.stat("/cfg").is_ok();
-            match is_there {
-                true => Ok(()),
-                false => match tree.mknod("/cfg") {
-                    Err(error) if exclusive && error.errno() == Some(Errno::EEXIST) => Ok(()),
-                    came => came,
-                },
-            }
-        });
-    }
-    plan.check(|_, replies| replies.iter().all(|(_, came)| came.is_ok()));
-}
-
-#[test]
-fn exists_and_then_create() {
-    is_found(|plan| exists_then_create(plan, false));
-    passes(|plan| exists_then_create(plan, true));
-}
-
-fn make_above(plan: &mut Plan<'_, Result<(), Error>>, naive: bool) {
-    for (name, path) in [("a", "/a/b/c"), ("b", "/a/b/d")] {
-        plan.thread(name, move |tree| {
-            if !naive {
-                return tree.create_dir_all(path);
-            }
-            for end in [2, 4, 6] {
-                if tree.stat(&path[..end]).is_err() {
-                    tree.mkdir(&path[..end])?;
-                }
-            }
-            Ok(())
-        });
-    }
-    plan.check(|tree, replies| {
-        replies.iter().all(|(_, came)| came.is_ok()) && tree.readdir("/a/b").unwrap() == [b"c", b"d"]
-    });
-}
-
-#[test]
-fn directories_above() {
-    is_found(|plan| make_above(plan, true));
-    passes(|plan| make_above(plan, false));
-}
-
-fn listing(plan: &mut Plan<'_, Vec<Vec<u8>>>, in_pieces: bool) {
-    plan.before(|tree| {
-        tree.mkdir("/q").unwrap();
-        ["/q/a", "/q/b", "/q/c", "/q/d"].iter().for_each(|path| tree.mknod(path).unwrap());
-    });
-    plan.thread("lister", move |tree| {
-        if !in_pieces {
-            return tree.readdir("/q").unwrap();
-        }
-        let (mut names, mut after) = (Vec::new(), b"/".to_vec());
-        loop {
-            let more = tree.list("/q", &after, 2).unwrap();
-            match more.last() {
-                Some(last) => after = [b"/", last.as_slice()].concat(),
-                None => return names,
-            }
-            names.extend(more);
-        }
-    });
-    plan.thread("mover", |tree| {
-        tree.rename("/q/c", "/q/a0").unwrap();
-        Vec::new()
-    });
-    plan.check(|_, replies| {
-        let names: BTreeSet<_> = replies["lister"].iter().map(Vec::as_slice).collect();
-        names.contains(b"c".as_slice()) || names.contains(b"a0".as_slice())
-    });
-}
-
-#[test]
-fn a_rename_while_listing() {
-    is_found(|plan| listing(plan, true));
-    passes(|plan| listing(plan, false));
-}
-
-fn publishing(plan: &mut Plan<'_, Vec<u8>>, in_pieces: bool) {
-    plan.before(|tree| tree.write_file("/cur", "1111111111").unwrap());
-    plan.thread("publisher", |tree| {
-        tree.write_file("/cur.tmp", "2222222222").unwrap();
-        tree.rename("/cur.tmp", "/cur").unwrap();
-        Vec::new()
-    });
-    plan.thread("reader", move |tree| {
-        if !in_pieces {
-            return tree.read("/cur", 0, 100).unwrap();
-        }
-        let mut bytes = Vec::new();
-        while bytes.len() < 10 {
-            bytes.extend(tree.read("/cur", bytes.len() as u64, 4).unwrap());
-        }
-        bytes
-    });
-    plan.check(|_, replies| [b"1111111111", b"2222222222"].contains(&replies["reader"].as_slice().try_into().unwrap()));
-}
-
-#[test]
-fn a_publication_and_a_reader_in_pieces() {
-    is_found(|plan| publishing(plan, true));
-    passes(|plan| publishing(plan, false));
-}
-
-fn stale_lock(plan: &mut Plan<'_, bool>, breaks: bool) {
-    plan.before(|tree| tree.write_file("/n", "0").unwrap());
-    for name in ["a", "b"] {
-        plan.thread(name, move |tree| {
-            let mut has = false;
-            for _ in 0..4 {
-                has = tree.mkdir("/lock").is_ok();
-                if has {
-                    break;
-                }
-                if breaks {
-                    // It is taken for a lock that somebody left: the bug.
-                    let _ = tree.rmdir("/lock");
-                }
-            }
-            if has {
-                let n = number(tree, "/n").unwrap();
-                tree.write("/n", 0, (n + 1).to_string()).unwrap();
-                let _ = tree.rmdir("/lock");
-            }
-            has
-        });
-    }
-    plan.check(|tree, replies| {
-        let have = replies.iter().filter(|(_, has)| **has).count();
-        tells(tree, "/n") == have.to_string()
-    });
-}
-
-#[test]
-fn a_stale_lock_that_is_broken() {
-    is_found(|plan| stale_lock(plan, true));
-    passes(|plan| stale_lock(plan, false));
-}
-
-fn queue(plan: &mut Plan<'_, Result<Vec<Vec<u8>>, Error>>, passes_over: bool) {
-    plan.before(|tree| {
-        tree.mkdir("/in").unwrap();
-        tree.mkdir("/taken").unwrap();
-        ["/in/1", "/in/2"].iter().for_each(|path| tree.mknod(path).unwrap());
-    });
-    for name in ["a", "b"] {
-        plan.thread(name, move |tree| {
-            let mut mine = Vec::new();
-            for job in tree.readdir("/in")? {
-                let at = |dir: &[u8]| [dir, b"/", job.as_slice()].concat();
-                match tree.rename(at(b"/in"), at(b"/taken")) {
-                    Err(error) if passes_over && error.errno() == Some(Errno::ENOENT) => {}
-                    came => came.map(|()| mine.push(job))?,
-                }
-            }
-            Ok(mine)
-        });
-    }
-    plan.check(|_, replies| {
-        let all: Result<Vec<_>, _> = replies.iter().map(|(_, came)| came.clone()).collect();
-        all.map_or(false, |all| all.concat().len() == 2)
-    });
-}
-
-#[test]
-fn a_queue_claimed_by_rename() {
-    is_found(|plan| queue(plan, false));
-    passes(|plan| queue(plan, true));
-}
-
-fn rotation(plan: &mut Plan<'_, Result<(), Error>>, at_size: bool) {
-    plan.before(|tree| tree.write_file("/log", "old.").unwrap());
-    plan.thread("rotates", |tree| {
-        tree.rename("/log", "/log.1")?;
-        tree.mknod("/log")
-    });
-    plan.thread("writes", move |tree| {
-        if at_size {
-            let size = tree.stat("/log")?.size;
-            return tree.write("/log", size, "line").map(|_| ());
-        }
-        // A file of its own, moved into place: no rotation comes between.
-        tree.write_file("/log.new", "line")?;
-        tree.rename("/log.new", "/log.2")
-    });
-    plan.check(|tree, replies| {
-        replies.iter().all(|(_, came)| came.is_ok()) && ["", "line"].contains(&tells(tree, "/log").as_str())
-    });
-}
-
-#[test]
-fn a_log_that_is_rotated() {
-    is_found(|plan| rotation(plan, true));
-    passes(|plan| rotation(plan, false));
+fn number(tree: &mut atomfs::Tree) -> u64 {
+    String::from_utf8(tree.read_to_end("/n").unwrap()).unwrap().parse().unwrap()
 }
 
 /// A panic in a thread is a fault with its line; one in the check, too.
@@ -329,7 +63,7 @@ fn workers_that_panic() {
     let plans = AtomicUsize::new(0);
     let made = |panics: bool, plan: &mut Plan<'_, Result<u64, Error>>| {
         assert!(!panics, "no plan today");
-        lost_update(plan, false);
+        lost_update(plan);
     };
     let wanted = explore(1..FOUND, |plan| made(false, plan)).unwrap_err();
     // The first two are for the run by which schedules are drawn, so this is one of a worker.
@@ -558,4 +292,230 @@ fn each_call() {
     };
     let seen = explore(1..50, plan).unwrap();
     assert_eq!((seen.runs, seen.outcomes, seen.last_new), (49, 1, 1));
+}
+
+/// How much was seen: outcomes, how many of the last runs brought a new one, and which calls met, by whatever workers.
+#[test]
+fn what_was_seen() {
+    let plan = |plan: &mut Plan<'_, bool>| {
+        for name in ["a", "b"] {
+            plan.thread(name, |tree| {
+                // These lines make three calls of two kinds.
+                let _ = tree.stat("/").is_ok() && tree.stat("/d").is_ok();
+                tree.mkdir("/d").is_ok()
+            });
+        }
+        plan.check(|_, replies| replies["a"] != replies["b"]);
+    };
+    let seen = explore(1..2_001, plan).unwrap();
+    assert_eq!((seen.runs, seen.lately, seen.pairs), (2_000, 1_000, 4));
+    assert!((1..=4).contains(&seen.met), "{seen}");
+    assert!(seen.outcomes >= 2 && seen.last_new <= 2_000 && seen.new < seen.outcomes as u64, "{seen}");
+    let (outcomes, new, met) = (seen.outcomes, seen.new, seen.met);
+    let words =
+        format!("2,000 runs, {outcomes} outcomes, {new} new in the last 1,000 runs; {met} of 4 pairs of calls met");
+    assert_eq!(seen.to_string(), words);
+    assert_eq!(explore_on(3, 1..2_001, plan).unwrap(), seen);
+    let one = explore(7..8, plan).unwrap();
+    assert_eq!((one.runs, one.outcomes, one.last_new, one.new, one.lately), (1, 1, 7, 1, 1));
+    // One thread alone meets nobody.
+    let alone = |plan: &mut Plan<'_, ()>| {
+        plan.before(|tree| tree.mkdir("/b").unwrap());
+        plan.thread("a", |tree| tree.mkdir("/a").unwrap()).check(|_, _| ());
+    };
+    let words = "3 runs, 1 outcome, 1 new in the last 3 runs; 0 of 0 pairs of calls met";
+    assert_eq!(explore(1..4, alone).unwrap().to_string(), words);
+}
+
+/// Each value with how often it came, the most frequent first, and a seed by which it comes.
+#[test]
+fn counted_outcomes() {
+    let plan = |plan: &mut Plan<'_, Result<u64, Error>>| lost_update_unchecked(plan);
+    let mut found = outcomes(1..401, plan, |tree, _| number(tree)).unwrap();
+    let values: BTreeSet<u64> = found.rows().iter().map(|row| row.value).collect();
+    assert_eq!(values, BTreeSet::from([1, 2]));
+    assert_eq!((found.seen().runs, found.seen().outcomes, found.seen().pairs), (400, 2, 4));
+    assert_eq!(found.rows().iter().map(|row| row.runs).sum::<u64>(), 400);
+    assert!(found.rows()[0].runs >= found.rows()[1].runs);
+    for row in found.rows() {
+        assert_eq!(found.count(|value| *value == row.value), row.runs);
+        let again = outcomes(row.seed..row.seed + 1, plan, |tree, _| number(tree)).unwrap();
+        assert_eq!(again.rows()[0].value, row.value);
+    }
+    let first = found.rows()[0];
+    let table = found.to_string();
+    assert!(table.starts_with(&format!("{} times, first by seed {}: {}\n", first.runs, first.seed, first.value)));
+    assert_eq!(table.lines().last().unwrap(), found.seen().to_string());
+    assert_eq!(format!("{found:?}"), format!("\n{table}"));
+    // What is broken by no run, and what is: by the run of the first seed, cut down.
+    found.never(|n| *n == 0).unwrap().sometimes(|n| *n == 1).unwrap().always(|n| [1, 2].contains(n)).unwrap();
+    let (lost, seed) = (found.count(|n| *n == 1), found.rows().iter().find(|row| row.value == 1).unwrap().seed);
+    let never = found.never(|n| *n == 1).unwrap_err();
+    let always = found.always(|n| *n == 2).unwrap_err();
+    for (error, word) in [(never, "never"), (always, "not always")] {
+        assert_eq!(error.fault, ScheduleFault::Check(format!("{word} 1: {lost} of 400 runs break it")));
+        assert_eq!((error.seed, error.schedule.split(' ').count()), (Some(seed), 3), "{error}");
+        assert!(error.trials > 0 && error.script.is_some());
+    }
+    let none = found.sometimes(|n| *n == 3).unwrap_err();
+    assert_eq!(none.to_string(), format!("it came in none of these:\n{table}\n"));
+    assert!(none.trace.is_empty());
+}
+
+fn lost_update_unchecked(plan: &mut Plan<'_, Result<u64, Error>>) {
+    plan.before(|tree| tree.write_file("/n", "0").unwrap());
+    for name in ["a", "b"] {
+        plan.thread(name, |tree| {
+            let n: u64 = String::from_utf8(tree.read("/n", 0, 10)?).unwrap().parse().unwrap();
+            tree.write("/n", 0, (n + 1).to_string())
+        });
+    }
+}
+
+/// Of functions that panic, of a check that fails, of what is observed badly, and of what differs from run to run.
+#[test]
+fn outcomes_of_bad_runs() {
+    let made = |plan: &mut Plan<'_, ()>| {
+        plan.thread("a", |tree| tree.mkdir("/a").unwrap());
+    };
+    let never = outcomes(
+        1..5,
+        |plan| {
+            made(plan);
+            plan.check(|_, _| false);
+        },
+        |_, _| 0,
+    );
+    assert_eq!(never.unwrap_err().fault.to_string(), "the check says no");
+    let panics = outcomes(
+        1..5,
+        |plan: &mut Plan<'_, ()>| {
+            plan.thread("a", |_| panic!("no"));
+        },
+        |_, _| 0,
+    );
+    assert!(matches!(&panics.unwrap_err().fault, ScheduleFault::Panicked(name, _) if name == "a"));
+    let observed = outcomes(1..5, made, |tree, _| tree.stat("/none").unwrap().size);
+    assert!(matches!(&observed.unwrap_err().fault, ScheduleFault::Check(why) if why.contains("ENOENT")));
+    let changed = outcomes(1..5, made, |tree, _| tree.rmdir("/a").is_ok());
+    assert_eq!(changed.unwrap_err().fault, ScheduleFault::ChangedByCheck);
+    assert_eq!(outcomes(5..5, made, |_, _| 0).unwrap_err().to_string(), "there are no seeds to draw from\n");
+    assert_eq!(
+        outcomes(1..5, |_: &mut Plan<'_, ()>| (), |_, _| 0).unwrap_err().to_string(),
+        "the plan has no threads\n"
+    );
+    let count = Cell::new(0);
+    let mut found = outcomes(1..5, made, |_, _| count.replace(count.get() + 1)).unwrap();
+    let differs = found.never(|n| *n == 2).unwrap_err();
+    assert!(differs.fault.to_string().starts_with("seed 3 comes to another outcome now: "), "{differs}");
+    let bounded = outcomes(
+        1..9,
+        |plan| {
+            made(plan);
+            plan.events(2);
+        },
+        |_, _| 0,
+    );
+    assert_eq!(bounded.unwrap_err().fault, ScheduleFault::NeverEnds(2));
+}
+
+/// Two threads take two locks in another order, and neither goes on: the events after which that is so, and the last
+/// ones of all.
+#[test]
+fn two_locks_in_another_order() {
+    fn takes(tree: &mut ThreadTree, path: &str) {
+        while tree.mkdir(path).is_err() {
+            tree.turn();
+        }
+    }
+    let plan = |plan: &mut Plan<'_, ()>| {
+        for (name, one, other) in [("a", "/one", "/two"), ("b", "/two", "/one")] {
+            plan.thread(name, move |tree| {
+                takes(tree, one);
+                takes(tree, other);
+                tree.rmdir(one).unwrap();
+                tree.rmdir(other).unwrap();
+            });
+        }
+        plan.events(20_000).check(|_, _| ());
+    };
+    let error = explore(1..FOUND, plan).unwrap_err();
+    assert_eq!(error.fault, ScheduleFault::NeverEnds(20_000));
+    // One has its first lock, and the other goes on until it has its own.
+    assert!(error.schedule.split(' ').count() <= 2, "{}", error.schedule);
+    assert!(error.trials < 300, "{}", error.trials);
+    // The turns that they hand on are events too, though no call has them.
+    assert!((10_000..20_000).contains(&error.trace.len()), "{}", error.trace.len());
+    let told = error.to_string();
+    let hidden = format!("{:05}", error.trace.len() - 40);
+    assert!(told.contains(&format!("    .. {},{} events before these\n", &hidden[..2], &hidden[2..])), "{told}");
+    assert!(told.contains("mkdir /one: begins") && told.contains("mkdir /two: begins"), "{told}");
+    assert_eq!((told.lines().count(), told.contains("script:")), (44, false), "{told}");
+    assert_eq!(replay(&error.schedule, plan).unwrap_err().journal, error.journal);
+    assert_eq!(explore(1..FOUND, plan).unwrap_err(), error);
+}
+
+/// A run of many events is cut down in bounded memory and time.
+#[test]
+fn long_runs() {
+    let plan = |plan: &mut Plan<'_, ()>| {
+        for name in ["a", "b"] {
+            plan.thread(name, move |tree| (0..500).for_each(|_| drop(tree.mkdir(format!("/{name}")))));
+        }
+        plan.check(|tree, _| tree.readdir("/").unwrap().is_empty());
+    };
+    let error = explore(1..2, plan).unwrap_err();
+    assert!(error.trials > 1 && error.trials < 1_000, "{}", error.trials);
+    assert!(replay(&error.schedule, plan).is_err());
+}
+
+/// What a process of its own prints: errors, what was seen, and what was observed.
+const ALONE: &str = "ATOMFS_TEST_ALONE";
+
+#[test]
+fn what_a_process_tells() {
+    if env::var_os(ALONE).is_none() {
+        return;
+    }
+    let error = explore(1..FOUND, lost_update).unwrap_err();
+    println!("{error}{}", error.journal);
+    println!("{}", explore_on(2, 1..FOUND, lost_update).unwrap_err());
+    for draws in [Draws::Uniform, Draws::Pct { depth: 3 }] {
+        let plan = |plan: &mut Plan<'_, Result<u64, Error>>| {
+            lost_update_unchecked(plan);
+            plan.draws(draws).check(|tree, replies| println!("{}{replies:?}", tree.journal().unwrap()));
+        };
+        println!("{}", explore(1..60, plan).unwrap());
+    }
+    println!("{}", outcomes(1..60, lost_update_unchecked, |tree, _| tree.text_of_tree().unwrap()).unwrap());
+}
+
+/// A seed is one run: byte for byte the same in each process, alone and under load. The hashes of std differ by process.
+#[test]
+fn the_same_in_each_process() {
+    let told = || {
+        let words = ["--exact", "what_a_process_tells", "--nocapture", "--test-threads=1"];
+        let done = Command::new(env::current_exe().unwrap()).args(words).env(ALONE, "1").output().unwrap();
+        assert!(done.status.success(), "{}", String::from_utf8_lossy(&done.stderr));
+        let text = String::from_utf8(done.stdout).unwrap();
+        text.lines()
+            .filter(|line| !line.starts_with("test result: "))
+            .map(|line| format!("{line}\n"))
+            .collect::<String>()
+    };
+    let first = told();
+    assert!(first.len() > 20_000, "{first}");
+    static DONE: AtomicBool = AtomicBool::new(false);
+    let cores = thread::available_parallelism().map_or(1, usize::from);
+    let spins = || {
+        while !DONE.load(Ordering::Relaxed) {
+            std::hint::spin_loop();
+        }
+    };
+    let busy: Vec<_> = (0..cores).map(|_| thread::spawn(spins)).collect();
+    let other = told();
+    DONE.store(true, Ordering::Relaxed);
+    busy.into_iter().for_each(|one| one.join().unwrap());
+    assert!(first == other, "{first}\n{other}");
+    assert!(first == told());
 }
