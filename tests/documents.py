@@ -51,6 +51,8 @@ NOW = (
     *OF_CRATES,
 )
 PAGES = ROOT / "CHANGELOG.md", *NOW
+# Those that have a page beside their program.
+RACES = [path.stem for path in sorted((ROOT / "examples" / "races").glob("*.md")) if path.stem != "README"]
 HELPED = DATA / "worked" / "runs" / "helped_mkdir"
 # What `atomfs schedule --robin` writes of it.
 BY_ROBIN = b"atomfs 1\nthread m\nmkdir /a\nmkdir /a/d\nmkdir /a/d/x\nthread r\nrename /a /b\nschedule\nm r m r m r m r m r m r m r m*8\n"
@@ -451,11 +453,13 @@ class Shown(Page):
         ("docs/TEST-A-FILE-SYSTEM.md", "python", 1, "tests/tutorials.py"),
         ("docs/ARCHITECTURE.md", "", 2, "tests/documents.py"),
         ("docs/MACHINE.md", "", 2, None),
-        ("examples/tour/README.md", "", 11, "tests/worked.py"),
+        ("examples/tour/README.md", "", 12, "tests/worked.py"),
         ("docs/RACES.md", "", 1, "bindings/python/tests/test_races.py"),
         ("docs/RACES.md", "python", 2, "bindings/python/tests/test_races.py"),
         ("docs/SCHEDULES.md", "python", 2, "bindings/python/tests/test_races.py"),
         ("examples/races/README.md", "", 1, "bindings/python/tests/test_races.py"),
+        *((f"examples/races/{name}.md", "", 2, "bindings/python/tests/test_races.py") for name in RACES),
+        *((f"examples/races/{name}.md", "python", 1, "bindings/python/tests/test_races.py") for name in RACES),
         ("examples/litmus/README.md", "", 1, "tests/documents.py"),
     )
 
@@ -1026,6 +1030,7 @@ class EachCommand(Page):
             ),
             (r"(tests/promises(?: .*)?)", self.look_at_promises),
             (r"(ROW=.* )?python3 (tests/\w+\.py) ?(.*)", self.look_at_module),
+            (r"cargo run --example (\w+)(?: .*)?", self.look_at_example),
         )
         for pattern, look in kinds:
             if named := re.fullmatch(pattern, command):
@@ -1034,6 +1039,13 @@ class EachCommand(Page):
             wanted = os.R_OK if command.startswith("python3 ") else os.X_OK
             return self.same("whether it is there", os.access(ROOT / named[1], wanted), True)
         self.same("whether it is one of others", self.OF_OTHERS.fullmatch(command) is not None, True)
+
+    def look_at_example(self, name: str) -> None:
+        """The crate for Rust has the example; tests/packages.py runs it."""
+        at = ROOT / "bindings" / "rust" / "examples"
+        self.same(
+            "whether it is there", any(path.is_file() for path in (at / f"{name}.rs", at / name / "main.rs")), True
+        )
 
     def look_at_program(self, typed: str, given: str) -> None:
         """The program takes these words, or words that begin so; what it prints is looked at where a page says so."""

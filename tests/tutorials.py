@@ -18,14 +18,17 @@ from harness import DATA, ROOT, Case
 FIRST_RACE, PLAYER, HISTORIES = (DOCS / f"{name}.md" for name in ("FIRST-RACE", "PLAYER", "TEST-A-FILE-SYSTEM"))
 # Runs blocks of Python, and writes what each printed, and the script of an error of a race at which it ended.
 DRIVER = """\
-import contextlib, io, json, sys
+import contextlib, io, json, linecache, sys
 
 names, told = {"__name__": "page"}, []
-for block in json.load(sys.stdin):
+for number, block in enumerate(json.load(sys.stdin)):
     printed, script = io.StringIO(), None
+    # By this a line of the block has its text, as one of a file.
+    name = f"block_{number}.py"
+    linecache.cache[name] = len(block), None, block.splitlines(keepends=True), name
     with contextlib.redirect_stdout(printed):
         try:
-            exec(block, names)
+            exec(compile(block, name, "exec"), names)
         except names["atomfs"].ScheduleError as race:
             script = race.script
     told.append((printed.getvalue(), script))

@@ -1,10 +1,13 @@
-"""6. The race of step 2 from Python, where you choose the steps yourself.
+"""6. A race of your own functions, in Python.
+
+Ann and Bob want one lock. Each looks whether it is there, and makes it if not. `explore` finds a run in which both win, cuts it down, and
+`replay` makes it again. The repair makes the lock at once, as in step 2.
 
 Install the package, or build the library with `embed/build` and say where it is:
 
     export PYTHONPATH=bindings/python/src ATOMFS_LIBRARY=dist/lib/libatomfs.so
 
-This plays ten races, says who won each, and writes the journal of the last one:
+This shows the race, runs the repair, and writes the journal of the race:
 
     python3 examples/tour/6_race.py > tour.journal
 
@@ -12,7 +15,6 @@ Draw it:
 
     examples/run draw < tour.journal > tour.svg
 """
-import random
 import sys
 
 try:
@@ -27,31 +29,36 @@ except (ImportError, OSError) as error:
     sys.exit(2)
 
 
-def race(tree, draw):
-    """Two seats make one directory, and `draw` says who makes the next step. Answers who won."""
-    seats, winners = {"ann": tree.seat(), "bob": tree.seat()}, []
-    for seat in seats.values():
-        seat.begin.mkdir("/lock")
-    left = list(seats)
-    while left:
-        who = draw.choice(left)
-        if seats[who].step().did == atomfs.Did.RETURN:
-            left.remove(who)
-            try:
-                seats[who].reply()
-                winners.append(who)
-            except FileExistsError:
-                pass
-    return winners
+def look_first(tree):
+    if tree.exists("/lock"):
+        return "lost"
+    tree.write_text("/lock", "")
+    return "won"
+
+
+def at_once(tree):
+    try:
+        tree.mkdir("/lock")
+    except FileExistsError:
+        return "lost"
+    return "won"
+
+
+def one_wins(tree, replies):
+    return sorted(replies.values()) == ["lost", "won"]
 
 
 def main():
-    for seed in range(10):
-        with atomfs.Tree() as tree:
-            winners = race(tree, random.Random(seed))
-            print(f"seed {seed}: {' and '.join(winners)} won, {tree.check()}", file=sys.stderr)
-            journal = tree.journal()
-    print(journal, end="")
+    try:
+        atomfs.explore({"ann": look_first, "bob": look_first}, one_wins)
+    except atomfs.ScheduleError as race:
+        for event in race.events:
+            print(f"{event.thread}  {event.line.text:28}  {event}", file=sys.stderr)
+        replies = " and ".join(f"{name} {reply}" for name, reply in race.replay().replies.items())
+        print(f"seed {race.seed}: {replies}, {race.verdict}", file=sys.stderr)
+        print(race.journal)
+    seen = atomfs.explore({"ann": at_once, "bob": at_once}, one_wins, runs=1_000)
+    print(seen.summary, file=sys.stderr)
 
 
 if __name__ == "__main__":

@@ -38,6 +38,11 @@ LEFT = {
 }
 
 
+def page_of(name: str) -> str:
+    """The page of a race."""
+    return (FOLDER / f"{name}.md").read_text()
+
+
 @unittest.skipUnless(FOLDER.is_dir(), "the examples are those of a checkout")
 class Races(unittest.TestCase):
     # The module race of the examples.
@@ -104,6 +109,8 @@ class Races(unittest.TestCase):
                     seen = self.race.passes(module, RUNS, executor=executor)
                     self.assertEqual(seen, RUNS)
                     self.assertGreaterEqual(seen.pairs, seen.met)
+                    if RUNS == 10_000:
+                        self.assertIn(f"--runs 10000 --workers 4\n{seen.summary}\n", page_of(module.__name__))
 
     def test_repair_of_one(self) -> None:
         """By one process it is the same."""
@@ -126,9 +133,14 @@ class Races(unittest.TestCase):
             self.assertEqual(ran.stdout, "50 runs, 1 outcome, 1 new in the last 50 runs; 0 of 0 pairs of calls met\n")
 
     def test_table(self) -> None:
-        """The page names each, and nothing else."""
+        """The page names the page of each, and nothing else; the page of a race names its program, and the one in Rust."""
         page = (FOLDER / "README.md").read_text()
-        self.assertEqual(sorted(set(re.findall(r"\((\w+)\.py\)", page)) - {"race"}), NAMES)
+        self.assertEqual(sorted(set(re.findall(r"\((\w+)\.md\)", page))), NAMES)
+        for name in NAMES:
+            links = re.findall(r"\]\((.*?)\)", (FOLDER / f"{name}.md").read_text())
+            self.assertIn(f"{name}.py", links)
+            self.assertIn(f"../../bindings/rust/examples/races/{name}.rs", links)
+            self.assertTrue(all((FOLDER / link).is_file() for link in links), links)
 
 
 @unittest.skipUnless(FOLDER.is_dir(), "the pages are those of a checkout")
@@ -153,16 +165,26 @@ class Pages(unittest.TestCase):
         self.assertEqual(_without_counts(told)[: len(wanted)], wanted)
 
     def test_races(self) -> None:
-        """So does the race that the page of races shows, but for what it leaves out."""
-        (shown,) = self.blocks(FOLDER / "README.md", "")
-        command, *lines = shown.splitlines()
-        named = re.fullmatch(r"\$ python3 examples/races/(\w+)\.py", command)
-        assert named
-        told = [line.rstrip() for line in str(Races.found(named[1])).splitlines()]
-        self.assertIn("  ..", lines)
-        for line in _without_counts(lines):
-            if line != "  ..":
-                self.assertIn(line, _without_counts(told))
+        """So do the races that their pages show, but for what these leave out; and each page has the repair as its program has it."""
+        for page in (FOLDER / "README.md", *(FOLDER / f"{name}.md" for name in NAMES)):
+            with self.subTest(page.name):
+                shown, *others = self.blocks(page, "")
+                command, *lines = shown.splitlines()
+                named = re.fullmatch(r"\$ python3 examples/races/(\w+)\.py", command)
+                assert named
+                self.assertIn(named[1], (page.stem, "mkdir_p"))
+                if page.stem == named[1]:
+                    self.look_at_repair(page, others)
+                told = [line.rstrip() for line in str(Races.found(named[1])).splitlines()]
+                pieces = "\n".join(_without_counts(lines)).split("\n  ..\n")
+                pattern = r"\n(.*\n)*".join(map(re.escape, pieces)) + r"\n(.*\n)*"
+                self.assertRegex("\n".join([*_without_counts(told), ""]), f"^{pattern}$")
+
+    def look_at_repair(self, page: pathlib.Path, others: typing.List[str]) -> None:
+        (repair,) = self.blocks(page, "python")
+        self.assertIn(f"\n{repair}\n", page.with_suffix(".py").read_text())
+        (passed,) = others
+        self.assertTrue(passed.startswith(f"$ python3 examples/races/{page.stem}.py --repaired --runs 10000 "))
 
     def test_outcomes(self) -> None:
         first, second = self.blocks(self.PAGE, "python")
