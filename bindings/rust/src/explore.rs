@@ -14,6 +14,7 @@ use crate::baton::{Baton, Event, Stopped, ThreadTree};
 use crate::draws::Chooser;
 use crate::limits::Limits;
 use crate::page::{page_with, sources};
+use crate::processor::OneProcessor;
 use crate::seen::{grouped, Explored, Look, Meetings};
 use crate::texts::{self, Schedule};
 use crate::tree::Tree;
@@ -478,11 +479,13 @@ pub(crate) struct Player<'m, 'p, R> {
     pub(crate) made: &'m mut dyn FnMut(&mut Plan<'p, R>),
     /// After a run that passes its check, what is wrong with it all the same.
     pub(crate) judge: Option<&'m dyn Fn() -> Option<String>>,
+    /// This thread's, and that of the threads of its runs.
+    pub(crate) _processor: OneProcessor,
 }
 
 impl<'m, 'p, R: Send + 'static> Player<'m, 'p, R> {
     pub(crate) fn of(made: &'m mut dyn FnMut(&mut Plan<'p, R>)) -> Player<'m, 'p, R> {
-        Player { made, judge: None }
+        Player { made, judge: None, _processor: OneProcessor::next() }
     }
 
     /// By what the schedules of these seeds are drawn, by a run in which the threads go one after another: by its

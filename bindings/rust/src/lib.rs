@@ -60,6 +60,7 @@ mod methods;
 mod outcomes;
 mod page;
 mod path;
+mod processor;
 mod seen;
 mod session;
 mod shared;

@@ -38,8 +38,8 @@ pub fn explore_on<'p, R: Send + 'static>(
     plan: impl Fn(&mut Plan<'p, R>) + Sync,
 ) -> Result<Explored, ScheduleError> {
     let mut made = |one: &mut Plan<'p, R>| plan(one);
-    let mut player = Player::of(&mut made);
-    let drawn = player.drawn(&seeds)?;
+    // Its processor is given back before the workers start.
+    let drawn = Player::of(&mut made).drawn(&seeds)?;
     let runs = seeds.end - seeds.start;
     let workers = match workers {
         0 => thread::available_parallelism().map_or(1, usize::from),
@@ -60,7 +60,7 @@ pub fn explore_on<'p, R: Send + 'static>(
     drop(work);
     let Shared { look, failed, .. } = shared.into_inner().unwrap_or_else(PoisonError::into_inner);
     match failed {
-        Some((seed, Failed::Ran(ran))) => Err(player.cut_down(*ran, seed)),
+        Some((seed, Failed::Ran(ran))) => Err(Player::of(&mut made).cut_down(*ran, seed)),
         Some((_, Failed::None(error))) => Err(error),
         None => Ok(look.seen(&seeds)),
     }
