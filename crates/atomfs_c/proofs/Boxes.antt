@@ -14,8 +14,8 @@ use Rattle.std_alloc.proofs.BoxSteps.Form.{Bx, R, P}
 use Rattle.std_heap.specs.contracts.Global as Heap
 use Rattle.std_heap.specs.contracts.GlobalAllocator.TheImpl.{ghosts, dict}
 use Rattle.std_heap.proofs.Global.TheLaws as heap
-use Rattle.fs_core.specs.contracts.machine.Core as Home
-use Rattle.fs_core.proofs.machine.Core.TheLaws as home
+use Rattle.fs_core.specs.contracts.engine.Core as Home
+use Rattle.fs_core.proofs.engine.Core.TheLaws as home
 use Rattle.atomfs_c.specs.contracts.parts.Parts as Parts
 use Rattle.atomfs_c.specs.contracts.held.Held as Held
 

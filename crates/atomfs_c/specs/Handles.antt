@@ -5,7 +5,7 @@ use denote.RawPtr.{Ptr}
 use Rattle.std.specs.Box.Ownership.{box_owns}
 use Rattle.std.specs.Global.{Global}
 use Rattle.std_heap.specs.contracts.GlobalAllocator.TheImpl.{ghosts}
-use Rattle.fs_core.specs.contracts.machine.Core.{the_row}
+use Rattle.fs_core.specs.contracts.engine.Core.{the_row}
 
 -- the memory that a handle owns
 abbrev pub held_owns : Global → Ptr → Option the_row.Denot → Fml

@@ -17,9 +17,11 @@ use Rattle.fs_machine.specs.States.{Run, begun_again}
 use Rattle.fs_numbers.specs.Agreement.{IsHeldBy}
 use Rattle.fs_numbers.proofs.Again.{timelines_begin_again}
 use Rattle.fs_numbers.proofs.Agreement.{parts_agree}
-use Rattle.fs_core.specs.declared.seat.Running.{Running}
-use Rattle.fs_core.specs.CoreValues.{CoreValue, state_of, IsAtRest, number_on}
-use Rattle.fs_core.specs.code.Rooms.{IsKept, walking, owed}
+use Rattle.fs_core_seats.specs.declared.seat.Running.{Running}
+use Rattle.fs_core.specs.CoreValues.{CoreValue, state_of, IsAtRest}
+use Rattle.fs_core_seats.specs.Seats.{number_on}
+use Rattle.fs_core.specs.code.Rooms.{IsKept}
+use Rattle.fs_core_seats.specs.code.Owed.{walking, owed}
 use Rattle.fs_core.proofs.Resting.{idle_at_rest}
 use Rattle.fs_core.proofs.States.{same_state}
 

@@ -13,16 +13,18 @@ use Rattle.fs_machine.specs.States.{IsWalkingBelow, IsWalkingBelowMoved, IsLowes
 use Rattle.fs_machine.specs.declared.moves.Moved.{Moved}
 use Rattle.fs_laws.proofs.states.Headline.{run_keeps}
 use Rattle.fs_laws.proofs.graphs.Walks.{at_from}
-use Rattle.fs_core.specs.declared.seat.Running.{Running}
+use Rattle.fs_core_seats.specs.declared.seat.Running.{Running}
 use Rattle.fs_core.specs.code.Helping.{Helps}
-use Rattle.fs_core.specs.CoreValues.{CoreValue, state_of, number_on, records}
-use Rattle.fs_core.specs.code.Rooms.{AreBelow, IsKept}
-use Rattle.fs_core.specs.code.Orders.{AreListed}
-use Rattle.fs_core.specs.code.Searches.{position_of, position_on, IsUnder, IsUnderMoved, IsAlone, IsLowestOn, HasLeast, IsRooted, CanSearch}
-use Rattle.fs_core.proofs.Below.{key_within}
-use Rattle.fs_core.proofs.SeatLemmas.{number_read, Comes, record_comes}
-use Rattle.fs_core.proofs.Searching.{under_within}
-use Rattle.fs_core.proofs.Ways.{walks_on}
+use Rattle.fs_core.specs.CoreValues.{CoreValue, state_of}
+use Rattle.fs_core_seats.specs.Seats.{number_on, records}
+use Rattle.fs_core_seats.specs.code.Searches.{AreBelow}
+use Rattle.fs_core.specs.code.Rooms.{IsKept}
+use Rattle.fs_core_seats.specs.code.Orders.{AreListed}
+use Rattle.fs_core_seats.specs.code.Searches.{position_of, position_on, IsUnder, IsUnderMoved, IsAlone, IsLowestOn, HasLeast, IsRooted, CanSearch}
+use Rattle.fs_core_seats.proofs.Below.{key_within}
+use Rattle.fs_core_seats.proofs.SeatLemmas.{number_read, Comes, record_comes}
+use Rattle.fs_core_seats.proofs.Searching.{under_within}
+use Rattle.fs_core_seats.proofs.Ways.{walks_on}
 use Rattle.fs_core.proofs.States.{apart_of, call_on}
 use Rattle.fs_core.proofs.Steps.{walks_phase}
 

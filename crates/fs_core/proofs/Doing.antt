@@ -23,19 +23,22 @@ use Rattle.fs_machine.specs.declared.answers.Stepped.TheVariants.{Idle, Took, Bu
 use Rattle.fs_machine.specs.declared.moves.Moved.{Moved}
 use Rattle.fs_laws.proofs.calls.NextMoves.{takes_used, takes_another, leaves_held}
 use Rattle.fs_laws.proofs.states.GraphOfARun.{spare_reserved, spare_removed, can_finish, begun_before}
-use Rattle.fs_core.specs.declared.seat.Running.{Running}
-use Rattle.fs_core.specs.CoreValues.{CoreValue, state_of, number_of, records}
-use Rattle.fs_core.specs.code.Rooms.{walking, walking_at, owed_at, owed, IsKept}
+use Rattle.fs_core_seats.specs.declared.seat.Running.{Running}
+use Rattle.fs_core.specs.CoreValues.{CoreValue, state_of}
+use Rattle.fs_core_seats.specs.Seats.{number_of, records}
+use Rattle.fs_core_seats.specs.code.Owed.{walking, walking_at, owed_at, owed}
+use Rattle.fs_core.specs.code.Rooms.{IsKept}
 use Rattle.fs_core.specs.declared.done.Done.TheVariants as done
 use Rattle.fs_core.specs.code.Doing.{Does}
 use Rattle.fs_core.specs.code.Helping.{Helps}
-use Rattle.fs_core.specs.code.Seats.{MovesOn, PlacedOn, PlansOn, Goes, placed}
+use Rattle.fs_core.specs.code.Seats.{MovesOn, PlacedOn, PlansOn}
+use Rattle.fs_core_seats.specs.code.Changes.{Goes, placed}
 use Rattle.fs_finish.specs.Plans.{Changes}
 use Rattle.fs_finish.specs.declared.plan.Plan.{Plan}
 use Rattle.fs_nodes.specs.Seen.{IsReal}
 use Rattle.fs_ops.specs.PlanOf.{HasSetOut, IsPlan, plan_of, IfFinish}
 use Rattle.fs_ops.specs.declared.next.Next.{Next}
-use Rattle.fs_core.proofs.SeatLemmas.{number_read}
+use Rattle.fs_core_seats.proofs.SeatLemmas.{number_read}
 use Rattle.fs_core.proofs.States.{call_on, moves}
 use Rattle.fs_core.proofs.Steps.{took_step, let_go_step, helped_step, committed_step, carried_step, returned_step}
 use Rattle.fs_core.proofs.SetsOut.{sets_out}
@@ -150,7 +153,7 @@ owes (p ∷ seats) zero slot e = let z : p ≡ slot = cc in rw z (omega arith, o
 owes (p ∷ seats) (suc seat) slot e = let r : (owed_at slot ≤ owed seats) × (walking_at slot ≤ walking seats) = owes seats seat slot e in (omega (arith, r.0), omega (arith, r.1))
 
 pub push_place : (m : CoreValue) (b k p seat : ℕ) (r : Running) → IsKept m b k p → slice_get m.seats seat ≡ Some (Some r) → 0 < p
-push_place m b k p seat r kept on = let o : owed_at (Some r) ≤ owed m.seats = (owes m.seats seat (Some r) on).0 in let q : 0 < owed_at (Some r) = positive (Rattle.fs_core.specs.code.Rooms.is_walking r) in let l : owed m.seats ≤ p = kept.owed_is in omega (arith, o, q, l)
+push_place m b k p seat r kept on = let o : owed_at (Some r) ≤ owed m.seats = (owes m.seats seat (Some r) on).0 in let q : 0 < owed_at (Some r) = positive (Rattle.fs_core_seats.specs.code.Owed.is_walking r) in let l : owed m.seats ≤ p = kept.owed_is in omega (arith, o, q, l)
   where
     positive : (c : Bool) → 0 < Rattle.std.proofs.Common.cond c 2 1
     positive true = omega arith

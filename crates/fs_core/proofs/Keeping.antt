@@ -5,7 +5,7 @@ use Rattle.std.proofs.lemmas.Option.{slice_get_within}
 use Rattle.fs_names.specs.declared.limits.Limits.{Limits}
 use Rattle.fs_calls.proofs.ListLemmas.{slice_get-set_same, slice_get-set_other}
 use Rattle.fs_laws.proofs.graphs.Walks.{eqb_true}
-use Rattle.fs_core.specs.declared.seat.Running.{Running}
+use Rattle.fs_core_seats.specs.declared.seat.Running.{Running}
 use Rattle.fs_core.specs.code.Rooms.{AllKeep}
 use Rattle.fs_core.proofs.Starting.{apart}
 

@@ -2,10 +2,11 @@
 use Rattle.std.proofs.Common.{◌≡◌, ℕ, ◌≤◌, List, Option, Some, None, length, refl, sym, ap, ◌∙◌, arith}
 use Rattle.std.specs.Prelude.{slice_get}
 use Rattle.std.specs.Option.{option_flatten}
-use Rattle.fs_core.specs.declared.seat.Running.{Running}
-use Rattle.fs_core.specs.CoreValues.{CoreValue, number_of, number_on}
+use Rattle.fs_core_seats.specs.declared.seat.Running.{Running}
+use Rattle.fs_core.specs.CoreValues.{CoreValue}
+use Rattle.fs_core_seats.specs.Seats.{number_of, number_on}
 use Rattle.fs_core.specs.code.Leasts.{IsLeastOf, IsLeast}
-use Rattle.fs_core.specs.code.Orders.{IsListed, AreListed}
+use Rattle.fs_core_seats.specs.code.Orders.{IsListed, AreListed}
 
 -- a seat with a number has a call
 has_call : (seats : List (Option Running)) (seat d : ℕ) → number_on seats seat ≡ Some d → (r : Running) × (slice_get seats seat ≡ Some (Some r))

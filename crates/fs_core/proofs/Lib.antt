@@ -1,11 +1,7 @@
-pub mod SeatLemmas
 pub mod WorkLemmas
 pub mod States
 pub mod Steps
-pub mod Below
 pub mod Among
-pub mod Searching
-pub mod Ways
 pub mod Choosing
 pub mod SetsOut
 pub mod Doing

@@ -28,10 +28,13 @@ use Rattle.fs_laws.proofs.states.Agreement.{not_begun}
 use Rattle.fs_laws.proofs.states.Headline.{run_keeps}
 use Rattle.fs_laws.proofs.graphs.Walks.{eqb_refl, eqb_true}
 use Rattle.fs_core.specs.Events.{HasRoom}
-use Rattle.fs_core.specs.declared.seat.Running.{Running}
-use Rattle.fs_core.specs.CoreValues.{CoreValue, state_of, number_on, number_of, records}
-use Rattle.fs_core.specs.code.Rooms.{AreBelow, walking, walking_at, owed_at, owed, IsKept}
-use Rattle.fs_core.proofs.SeatLemmas.{records_begun, records_more, numbers_set, numbers_more, number_read, owed_set, owed_more, walking_set, walking_more}
+use Rattle.fs_core_seats.specs.declared.seat.Running.{Running}
+use Rattle.fs_core.specs.CoreValues.{CoreValue, state_of}
+use Rattle.fs_core_seats.specs.Seats.{number_on, number_of, records}
+use Rattle.fs_core_seats.specs.code.Searches.{AreBelow}
+use Rattle.fs_core_seats.specs.code.Owed.{walking, walking_at, owed_at, owed}
+use Rattle.fs_core.specs.code.Rooms.{IsKept}
+use Rattle.fs_core_seats.proofs.SeatLemmas.{records_begun, records_more, numbers_set, numbers_more, number_read, owed_set, owed_more, walking_set, walking_more}
 use Rattle.fs_core.proofs.Keeping.{keep_begun, keep_more, keep_none}
 use Rattle.fs_core.proofs.States.{same_state, begins_more, commits_begin}
 

@@ -10,8 +10,9 @@ use Rattle.fs_machine.specs.Headline.{IsIdle}
 use Rattle.fs_machine.specs.States.{Run}
 use Rattle.fs_laws.proofs.journal.ViewOfTimeline.{linearizes}
 use Rattle.fs_laws.proofs.states.Headline.{run_keeps}
-use Rattle.fs_core.specs.declared.seat.Running.{Running}
-use Rattle.fs_core.specs.CoreValues.{CoreValue, state_of, IsAtRest, number_on, record_from}
+use Rattle.fs_core_seats.specs.declared.seat.Running.{Running}
+use Rattle.fs_core.specs.CoreValues.{CoreValue, state_of, IsAtRest}
+use Rattle.fs_core_seats.specs.Seats.{number_on, record_from}
 
 -- no record where no seat has a call
 none_from : (i : ℕ) (seats : List (Option Running)) → ((seat : ℕ) → number_on seats seat ≡ None) → (c : ℕ) → record_from i seats c ≡ None

@@ -34,7 +34,7 @@ use Rattle.fs_laws.proofs.events.Help.{upd_else}
 use Rattle.fs_laws.proofs.events.OneCallChanged.{Place, Here, Else, place}
 use Rattle.fs_laws.proofs.states.StartsEmpty.{starts_empty}
 use Rattle.fs_laws.proofs.finish.Kinds.{ordered_with, one_more}
-use Rattle.fs_core.specs.code.Rooms.{AreBelow}
+use Rattle.fs_core_seats.specs.code.Searches.{AreBelow}
 use Rattle.fs_core.specs.code.Filling.{shape_of_kind, shape_of_row, CanAdd, IsAdded}
 
 -- ---- what a new node is

@@ -18,11 +18,12 @@ use Rattle.fs_machine.specs.declared.moves.Move.TheVariants.{Take as Takes, LetG
 use Rattle.fs_machine.specs.OpValues.{OpValue, phase_of, record_of, next_of, BegunAs}
 use Rattle.fs_machine.specs.declared.moves.Moved.{Moved}
 use Rattle.fs_laws.proofs.graphs.Walks.{eqb_refl, eqb_true}
-use Rattle.fs_core.proofs.SeatLemmas.{length_more}
-use Rattle.fs_core.specs.declared.seat.Running.{Running}
+use Rattle.fs_core_seats.proofs.SeatLemmas.{length_more}
+use Rattle.fs_core_seats.specs.declared.seat.Running.{Running}
 use Rattle.fs_core.specs.CoreValues.{CoreValue}
 use Rattle.fs_core.specs.code.Helping.{Helps}
-use Rattle.fs_core.specs.code.Seats.{MovesOn, placed}
+use Rattle.fs_core.specs.code.Seats.{MovesOn}
+use Rattle.fs_core_seats.specs.code.Changes.{placed}
 use Rattle.fs_core.specs.code.Starting.{IsStarting, AreStarting}
 
 -- what it does next, by its parts

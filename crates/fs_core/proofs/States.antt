@@ -17,9 +17,10 @@ use Rattle.fs_timeline.specs.Timeline.{begins, commit_count}
 use Rattle.fs_laws.specs.Invariants.{Invariant}
 use Rattle.fs_machine.specs.States.{State, Moves, Run}
 use Rattle.fs_laws.proofs.states.Headline.{run_keeps}
-use Rattle.fs_core.specs.declared.seat.Running.{Running}
-use Rattle.fs_core.specs.CoreValues.{CoreValue, state_of, records}
-use Rattle.fs_core.proofs.SeatLemmas.{AreApart, number_read, records_at}
+use Rattle.fs_core_seats.specs.declared.seat.Running.{Running}
+use Rattle.fs_core.specs.CoreValues.{CoreValue, state_of}
+use Rattle.fs_core_seats.specs.Seats.{records}
+use Rattle.fs_core_seats.proofs.SeatLemmas.{AreApart, number_read, records_at}
 use Rattle.fs_core.proofs.WorkLemmas.{next_is}
 
 -- states with the same parts

@@ -25,10 +25,12 @@ use Rattle.fs_laws.specs.Invariants.{Invariant, limits_of}
 use Rattle.fs_laws.proofs.states.Agreement.{run_accounts}
 use Rattle.fs_laws.proofs.states.Headline.{run_keeps}
 use Rattle.fs_laws.proofs.finish.Limits.{finish_resizes, own_limited}
-use Rattle.fs_core.specs.declared.seat.Running.{Running}
-use Rattle.fs_core.specs.CoreValues.{CoreValue, state_of, records}
-use Rattle.fs_core.specs.code.Rooms.{is_walking, walking_at, owed_at, IsKept}
-use Rattle.fs_core.proofs.SeatLemmas.{records_changed, records_ended, numbers_set, numbers_changed, owed_set, walking_set}
+use Rattle.fs_core_seats.specs.declared.seat.Running.{Running}
+use Rattle.fs_core.specs.CoreValues.{CoreValue, state_of}
+use Rattle.fs_core_seats.specs.Seats.{records}
+use Rattle.fs_core_seats.specs.code.Owed.{is_walking, walking_at, owed_at}
+use Rattle.fs_core.specs.code.Rooms.{IsKept}
+use Rattle.fs_core_seats.proofs.SeatLemmas.{records_changed, records_ended, numbers_set, numbers_changed, owed_set, walking_set}
 use Rattle.fs_core.proofs.Keeping.{keep_moved, keep_ended}
 use Rattle.fs_core.proofs.WorkLemmas.{finish_is, unfinished_at}
 use Rattle.fs_core.proofs.States.{same_state, apart_of, call_on, moves, took_reply, left_reply, finished_reply, begins_commit, begins_return, commits_more, commits_return}

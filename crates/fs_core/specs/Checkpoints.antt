@@ -1,6 +1,7 @@
 -- What a checkpoint asks, and why there is none.
 use Rattle.std.specs.Prelude.{ℕ, ◌≡◌, ◌≤◌, Option, Some}
-use Rattle.fs_core.specs.CoreValues.{CoreValue, IsAtRest, number_on}
+use Rattle.fs_core.specs.CoreValues.{CoreValue, IsAtRest}
+use Rattle.fs_core_seats.specs.Seats.{number_on}
 use Rattle.fs_core.specs.declared.checkpoint.NoCheckpoint.{NoCheckpoint}
 use Rattle.fs_core.specs.declared.checkpoint.NoCheckpoint.TheVariants.{UnderWay, OutOfMemory}
 

@@ -2,8 +2,6 @@
 pub mod Rooms
 pub mod Seats
 pub mod Helping
-pub mod Orders
-pub mod Searches
 pub mod Starting
 pub mod Doing
 pub mod Leasts

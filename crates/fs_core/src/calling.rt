@@ -6,7 +6,7 @@ ghost use Rattle.fs_machine.specs.declared.answers.Refusal.TheVariants.{OutOfMem
 ghost use Rattle.fs_core.specs.CoreValues.{state_of, IsAtRest};
 ghost use Rattle.fs_core.specs.Calls.{Steps, IsWaiting, Runs, IsNotDone};
 
-use crate::machine::Core;
+use crate::engine::Core;
 use fs_calls::{Call, Reply};
 use fs_machine::{Refusal, Stepped};
 use fs_names::{CallNo, SeatNo};

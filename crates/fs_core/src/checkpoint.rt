@@ -9,7 +9,7 @@ ghost use Rattle.fs_core.specs.CoreValues.{state_of, IsAtRest};
 ghost use Rattle.fs_core.specs.Checkpoints.{IsWhyNot};
 ghost use Rattle.fs_core.specs.code.Leasts.{IsLeast, lesser};
 
-use crate::machine::Core;
+use crate::engine::Core;
 use crate::start_tree::play;
 use fs_memory::Memory;
 use fs_names::{CallNo, SeatNo};

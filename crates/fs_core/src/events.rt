@@ -11,7 +11,7 @@ ghost use Rattle.fs_linearizable.specs.Linearizable.{history, IsLinearizable};
 ghost use Rattle.fs_core.specs.Events.{IsSeated, Happens, IsRefused, IsRun};
 ghost use Rattle.fs_core.specs.CoreValues.{state_of, IsAtRest};
 
-use crate::machine::Core;
+use crate::engine::Core;
 use crate::outcome::{Event, Ran};
 use fs_machine::Refusal;
 use std::alloc::Global;

@@ -11,7 +11,7 @@ ghost use Rattle.fs_rows.specs.Rows.{IsWithinLimits};
 ghost use Rattle.fs_locks.specs.Holding.{holder, room};
 ghost use Rattle.fs_machine.specs.States.{IsStart};
 ghost use Rattle.fs_core.specs.code.Filling.{shape_of_row, CanAdd, IsAdded};
-ghost use Rattle.fs_core.specs.code.Rooms.{AreBelow};
+ghost use Rattle.fs_core_seats.specs.code.Searches.{AreBelow};
 
 use fs_blocks::Spare;
 use fs_locks::Holders;

@@ -7,7 +7,7 @@ ghost use Rattle.fs_core.specs.CoreValues.{state_of, IsAtRest};
 ghost use Rattle.fs_core.specs.Checkpoints.{IsWhyNot};
 
 use crate::checkpoint::NoCheckpoint;
-use crate::machine::Core;
+use crate::engine::Core;
 use std::alloc::Global;
 
 impl Core {

@@ -9,8 +9,8 @@ ghost use Rattle.fs_nodes.specs.Stores.{graph_of};
 ghost use Rattle.fs_machine.specs.States.{fresh};
 ghost use Rattle.fs_core.specs.CoreValues.{state_of};
 
+use crate::engine::Core;
 use crate::filling::filled;
-use crate::machine::Core;
 use fs_names::Limits;
 use fs_nodes::NoNode;
 use fs_seq::{NotTree, Row, SeqTree};

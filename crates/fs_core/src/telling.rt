@@ -23,7 +23,7 @@ ghost use Rattle.fs_numbers.specs.Holdings.{HoldsFour};
 ghost use Rattle.fs_core.specs.CoreValues.{state_of};
 ghost use Rattle.fs_core.specs.Told.{RepliesStay, NamesAnother, DeepestWaitsForOneThatGoesOn};
 
-use crate::machine::Core;
+use crate::engine::Core;
 
 impl Core {
     /// Of helping: no walking call is below a placed one, no placed call below one placed earlier, and no other call

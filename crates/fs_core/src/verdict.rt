@@ -3,7 +3,7 @@
 ghost use Rattle.std.specs.Prelude.{◌≡◌, IfOk};
 ghost use Rattle.fs_timeline.specs.Verdicts.{verdict};
 
-use crate::machine::Core;
+use crate::engine::Core;
 use fs_journal::check_from;
 use fs_timeline::Verdict;
 use std::alloc::{AllocError, Global};

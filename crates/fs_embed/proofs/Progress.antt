@@ -11,7 +11,7 @@ use Rattle.fs_machine.specs.States.{State, Step}
 use Rattle.fs_machine.specs.declared.answers.Stepped.{Stepped}
 use Rattle.fs_machine.specs.declared.answers.Stepped.TheVariants.{Idle, Took, Busy, LetGo, Helped, Committed, CarriedOut, Returned}
 use Rattle.fs_core.specs.CoreValues.{CoreValue, state_of, number_on, number_of, IsAtRest}
-use Rattle.fs_core.specs.declared.seat.Running.{Running}
+use Rattle.fs_core_seats.specs.declared.seat.Running.{Running}
 use Rattle.fs_embed.specs.Calls.{GoesOnAs, StandsStill}
 
 -- an answer that is neither idle nor busy is one by which a call went on

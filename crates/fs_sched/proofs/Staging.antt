@@ -5,7 +5,7 @@ use Rattle.std.proofs.lemmas.Option.{slice_get_past, slice_get-get_or}
 use Rattle.std.proofs.lemmas.Bool.{ltb-true, ltb-false}
 use Rattle.std.specs.Option.{option_flatten}
 use Rattle.fs_calls.specs.declared.call.Call.{Call}
-use Rattle.fs_core.specs.declared.seat.Running.{Running}
+use Rattle.fs_core_seats.specs.declared.seat.Running.{Running}
 use Rattle.fs_core.specs.CoreValues.{number_of, number_on}
 use Rattle.fs_sched.specs.Runs.{Stage, next_call, Event, Spent, Events, IsOver, IsUnfinished, ToEnd, More, Round}
 use Rattle.fs_sched.specs.code.Stages.{stage_of, IsSeated}

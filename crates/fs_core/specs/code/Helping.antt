@@ -2,7 +2,7 @@
 use Rattle.std.specs.Prelude.{ℕ, ◌≡◌, Some, None, slice_get}
 use Rattle.fs_machine.specs.States.{IsChosen}
 use Rattle.fs_machine.specs.declared.moves.Moved.{Moved}
-use Rattle.fs_core.specs.declared.seat.Running.{Running}
+use Rattle.fs_core_seats.specs.declared.seat.Running.{Running}
 use Rattle.fs_core.specs.CoreValues.{CoreValue, state_of}
 
 -- the walking call on a seat is the one to help

@@ -1,7 +1,8 @@
 -- The least number of the calls under way, as a search over the seats has it.
 use Rattle.std.specs.Prelude.{ℕ, ◌≡◌, ◌<◌, ◌≤◌, nat_lt, if◌then◌else◌, List, Option, Some, None, slice_index}
-use Rattle.fs_core.specs.declared.seat.Running.{Running}
-use Rattle.fs_core.specs.CoreValues.{CoreValue, number_on, IsAtRest}
+use Rattle.fs_core_seats.specs.declared.seat.Running.{Running}
+use Rattle.fs_core.specs.CoreValues.{CoreValue, IsAtRest}
+use Rattle.fs_core_seats.specs.Seats.{number_on}
 use Rattle.fs_core.specs.Checkpoints.{IsLeastUnderWay}
 
 -- the lesser of two numbers, or the one that is there

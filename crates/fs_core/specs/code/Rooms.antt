@@ -1,46 +1,18 @@
 -- What a core keeps beside its state: counters, room for holders, and places for the entries that are owed.
-use Rattle.std.specs.Prelude.{ℕ, ◌≡◌, ◌+◌, ◌<◌, ◌≤◌, Bool, ◌&&◌, is_none, if◌then◌else◌, List, [], ◌∷◌, Option, Some, None, slice_get}
+use Rattle.std.specs.Prelude.{ℕ, ◌≡◌, ◌+◌, ◌<◌, ◌≤◌, List, Option, Some, slice_get}
 use Rattle.fs_names.specs.Limits.{in_blocks}
 use Rattle.fs_names.specs.declared.limits.Limits.{Limits}
 use Rattle.fs_names.specs.declared.limits.TheConstants.{NODE_LIMIT}
-use Rattle.fs_names.specs.Shapes.{Shape}
-use Rattle.fs_nodes.specs.Graphs.{Graph}
 use Rattle.fs_nodes.specs.Seen.{seen}
 use Rattle.fs_nodes.specs.Stores.{graph_of}
 use Rattle.fs_locks.specs.Holding.{room}
 use Rattle.fs_locks.specs.declared.word.TheConstants.{CALL_LIMIT}
 use Rattle.fs_timeline.specs.Timeline.{begins, commit_count}
 use Rattle.fs_machine.specs.States.{Run}
-use Rattle.fs_core.specs.declared.seat.Running.{Running}
+use Rattle.fs_core_seats.specs.declared.seat.Running.{Running}
+use Rattle.fs_core_seats.specs.code.Owed.{walking, owed}
+use Rattle.fs_core_seats.specs.code.Searches.{AreBelow}
 use Rattle.fs_core.specs.CoreValues.{CoreValue, state_of}
-
--- a call without a place in the timeline
-abbrev pub is_walking : Running → Bool
-is_walking running = is_none running.place && is_none running.op.reply
-
--- one where the call of a seat is walking
-abbrev pub walking_at : Option Running → ℕ
-walking_at None = 0
-walking_at (Some running) = if is_walking running then 1 else 0
-
--- how many calls are walking
-abbrev pub walking : List (Option Running) → ℕ
-walking [] = 0
-walking (slot ∷ seats) = walking_at slot + walking seats
-
--- how many entries a call under way still appends: a commit where it is walking, and a return
-abbrev pub owed_at : Option Running → ℕ
-owed_at None = 0
-owed_at (Some running) = if is_walking running then 2 else 1
-
--- the same of all seats
-abbrev pub owed : List (Option Running) → ℕ
-owed [] = 0
-owed (slot ∷ seats) = owed_at slot + owed seats
-
--- the numbers in use are below a bound
-abbrev pub AreBelow : Graph → ℕ → Type 0
-AreBelow graph bound = (n : ℕ) (shape : Shape) → graph.shape n ≡ Some shape → n < bound
 
 -- each call under way keeps these limits
 abbrev pub AllKeep : Limits → List (Option Running) → Type 0

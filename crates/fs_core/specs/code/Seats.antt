@@ -1,12 +1,12 @@
--- Changes of what is on one seat, and moves of the call there.
-use Rattle.std.specs.Prelude.{ℕ, ◌≡◌, Option, Some, None, slice_get}
+-- Moves of the call on a seat.
+use Rattle.std.specs.Prelude.{ℕ, ◌≡◌, Option, Some, slice_get}
 use Rattle.fs_nodes.specs.Seen.{seen}
 use Rattle.fs_nodes.specs.Stores.{graph_of}
 use Rattle.fs_finish.specs.declared.plan.Plan.{Plan}
 use Rattle.fs_machine.specs.declared.moves.Move.{Move}
-use Rattle.fs_machine.specs.OpValues.{OpValue, next_of}
+use Rattle.fs_machine.specs.OpValues.{next_of}
 use Rattle.fs_ops.specs.PlanOf.{IsPlan}
-use Rattle.fs_core.specs.declared.seat.Running.{Running}
+use Rattle.fs_core_seats.specs.declared.seat.Running.{Running}
 use Rattle.fs_core.specs.CoreValues.{CoreValue}
 
 -- the call on a seat, its number, and its next move
@@ -23,13 +23,3 @@ PlacedOn machine seat place = (running : Running) → slice_get machine.seats se
 -- what its finish does, in the store as it is
 abbrev pub PlansOn : CoreValue → ℕ → Plan → Type 0
 PlansOn machine seat plan = (running : Running) → slice_get machine.seats seat ≡ Some (Some running) → IsPlan (seen machine.store) running.op plan
-
--- what may happen to the call on a seat: its value is another one, by the same limits
-abbrev pub Goes : (OpValue → OpValue → Type 0) → Option Running → Option Running → Type 0
-Goes R None new = new ≡ None
-Goes R (Some old) new = (work : OpValue) × R old.op work × (work.limits ≡ old.op.limits) × (new ≡ Some (record old { op = work }))
-
--- it gets a place
-abbrev pub placed : Option Running → ℕ → Option Running
-placed None place = None
-placed (Some running) place = Some (record running { place = Some place })

@@ -1,7 +1,7 @@
 -- The calls that hold nothing yet.
 use Rattle.std.specs.Prelude.{ℕ, ◌≡◌, List, Option, Some, None, length, slice_get}
 use Rattle.fs_calls.specs.Forms.{by_paths}
-use Rattle.fs_core.specs.declared.seat.Running.{Running}
+use Rattle.fs_core_seats.specs.declared.seat.Running.{Running}
 
 -- the call of this number, which holds nothing and is not decided by its paths: it goes for the root, whatever the nodes are
 pub record IsStarting (running : Running) (call : ℕ) : Type 0 where

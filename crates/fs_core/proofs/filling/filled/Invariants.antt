@@ -5,7 +5,7 @@ use Rattle.fs_nodes.specs.Stores.{graph_of, used_below}
 use Rattle.fs_rows.specs.Rows.{row_of}
 use Rattle.fs_locks.specs.Holding.{holder, room}
 use Rattle.fs_machine.specs.States.{IsStart}
-use Rattle.fs_core.specs.code.Rooms.{AreBelow}
+use Rattle.fs_core_seats.specs.code.Searches.{AreBelow}
 use Rattle.fs_core.proofs.filling.filled.Given as goal
 
 -- the nodes are those of the rows so far

@@ -1,0 +1,5 @@
+-- What ties the code to the definitions: of it nothing has to be believed.
+pub mod Changes
+pub mod Orders
+pub mod Owed
+pub mod Searches
