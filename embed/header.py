@@ -14,7 +14,7 @@ ROOT = EMBED.parent
 PROVED, PYTHON = EMBED / "proved.h", ROOT / "bindings" / "python" / "src" / "atomfs" / "_header.py"
 # Where the version is, as a pattern around it.
 VERSIONS = (
-    ("crates/fs_arguments/src/cli.rt", r'(pub const VERSION: &str = ")[^"]*(";)'),
+    ("crates/atomfs_arguments/src/cli.rt", r'(pub const VERSION: &str = ")[^"]*(";)'),
     ("bindings/rust/Cargo.toml", r'(?m)(^version = ")[^"]*(")'),
     ("README.md", r"(atomfs-)\d+\.\d+\.\d+(-x86_64-linux)"),
     ("docs/EMBEDDING.md", r"(atomfs-)\d+\.\d+\.\d+(-x86_64-linux)"),

@@ -977,8 +977,8 @@ class EachCommand(Page):
     )
     # The words that stand for others.
     PUT = {
-        "CRATE": "fs_graph",
-        "NAME": "fs_graph",
+        "CRATE": "fs_calls",
+        "NAME": "fs_calls",
         "COMMAND": "run",
         "CALL": "1",
         "TREE": str(DATA / "starts" / "moved.tree"),
@@ -1155,7 +1155,7 @@ class Believed(Sentences):
     MODELS = (
         ("fs_timeline.specs.Timeline", "TimelineValue"),
         ("fs_core.specs.CoreValues", "CoreValue"),
-        ("fs_places.specs.Plains", "plains"),
+        ("fs_nodes_places.specs.Plains", "plains"),
     )
 
     def setUp(self) -> None:
@@ -1192,7 +1192,7 @@ class Believed(Sentences):
         )
         found = [
             function.name
-            for crate in ("fs_core", "fs_sched", "fs_start", "fs_share")
+            for crate in ("fs_core", "fs_sched", "fs_sched_start", "fs_share")
             for function in promises.public(CRATES / crate)
             if "linearizable" in [clause.name for clause in function.ensures]
         ]
@@ -1370,11 +1370,11 @@ def limits() -> dict[str, list[int]]:
         "fs_sched/src/seeding.rt",
     )
     of_searches = (
-        "fs_outcomes/src/running.rt",
-        "fs_find/src/finding.rt",
-        "fs_shrink/src/limits.rt",
-        "fs_minimal/src/limits.rt",
-        "fs_recorded/src/linearizing.rt",
+        "fs_sched_outcomes/src/running.rt",
+        "fs_sched_find/src/finding.rt",
+        "fs_sched_shrink/src/limits.rt",
+        "fs_linearize_minimal/src/limits.rt",
+        "fs_linearize_text/src/linearizing.rt",
     )
     found = {
         name: [value]
@@ -1440,7 +1440,7 @@ class Touched(Sentences):
             for file in (
                 "crates/fs_calls/specs/Forms.antt",
                 "crates/fs_calls/specs/Examples.antt",
-                "crates/fs_rows/specs/Rows.antt",
+                "crates/fs_seq/specs/Rows.antt",
                 "tests/data/transcripts/trees",
             )
         ),
@@ -1460,7 +1460,7 @@ class Touched(Sentences):
         *(
             ("TEXT_LIMIT", file)
             for file in (
-                "crates/fs_io/src/source.rt",
+                "crates/fs_verdict/src/source.rt",
                 "crates/fs_words/src/headers.rt",
                 "docs/FORMATS.md",
                 "tests/data/explained/TooLarge",
@@ -1718,7 +1718,7 @@ class Listed(Page):
         """docs/MACHINE.md has each law of the machine and of its runs, by the name of the function that states it."""
         laws = [
             name
-            for crate in ("fs_machine", "fs_laws", "fs_numbers", "fs_endings")
+            for crate in ("fs_machine", "fs_laws", "fs_laws", "fs_laws")
             for name in re.findall(r"^pub fn (\w+)\(", source(f"{crate}/src/laws.rt"), re.M)
         ]
         shown = [name for names, _ in table(DOCS / "MACHINE.md", "Law", "Says") for name in spans(names)]
@@ -1744,10 +1744,10 @@ class Listed(Page):
         self.agrees("the statuses", shown, [status for status in statuses if status != "0"])
         sources = "".join(
             source(f"{crate}/src/fault.rt")
-            for crate in ("fs_verdict", "fs_threads", "fs_trace", "fs_find", "fs_draw", "fs_replay")
+            for crate in ("fs_verdict", "fs_sched_threads", "fs_trace", "fs_sched_find", "fs_draw", "fs_trace_replay")
         )
         told = re.findall(r'#\[error\("(?!CALL is )([^"]*\w \w[^"]*|full)"', sources) + re.findall(
-            r'"atomfs: ([^"]*\bha(?:s|ve) it\b[^"]*)"', source("fs_command/src/status.rt")
+            r'"atomfs: ([^"]*\bha(?:s|ve) it\b[^"]*)"', source("atomfs_answers/src/status.rt")
         )
         messages = [re.sub(r"\{\w*\}", "N", message) for message in told]
         said = {span for _, message, _ in rows for span in spans(message)}
@@ -1834,9 +1834,9 @@ class Numbers(Sentences):
         )
         of_commands = (
             f"N from 0 to {seeds['SEED_LIMIT']:,}, K from 1 to {seeds['RUN_LIMIT']:,}",
-            f"of such runs, K from 1 to {constants('fs_outcomes/src/running.rt')['OUTCOME_LIMIT']:,}",
-            f"that has WHAT; K from 1 to {constants('fs_find/src/finding.rt')['SEARCH_LIMIT']:,}",
-            f"where it stopped at {constants('fs_shrink/src/limits.rt')['TRIAL_LIMIT']:,} runs",
+            f"of such runs, K from 1 to {constants('fs_sched_outcomes/src/running.rt')['OUTCOME_LIMIT']:,}",
+            f"that has WHAT; K from 1 to {constants('fs_sched_find/src/finding.rt')['SEARCH_LIMIT']:,}",
+            f"where it stopped at {constants('fs_sched_shrink/src/limits.rt')['TRIAL_LIMIT']:,} runs",
             f"A run of more than {events:,} events",
         )
         self.each(((sentence, COMMANDS, sentence) for sentence in of_commands), self.says)
@@ -1849,7 +1849,7 @@ class Numbers(Sentences):
         stack = (ROOT / "tests" / "limits.py").read_text()
         rows = (
             (EXAMPLES, f"`tests/data/worked` has {len(inputs)} more scripts, journals and broken texts"),
-            (RATTLE, f"There are places for {constants('fs_observe/src/publisher.rt')['READER_PLACES']} observers"),
+            (RATTLE, f"There are places for {constants('fs_share_observe/src/publisher.rt')['READER_PLACES']} observers"),
             (
                 EMBEDDING,
                 f"`embed/checks.c`, {len((ROOT / 'embed' / 'checks.c').read_text().splitlines())} lines that are not proved",

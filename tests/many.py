@@ -396,7 +396,7 @@ class Outcomes(Many):
         self.same(
             "its limits",
             [int(number) for number in shown],
-            [GREATEST, constants("fs_outcomes/src/running.rt")["OUTCOME_LIMIT"]],
+            [GREATEST, constants("fs_sched_outcomes/src/running.rt")["OUTCOME_LIMIT"]],
         )
 
 

@@ -745,7 +745,7 @@ class Numbers(Case):
     def versions() -> tuple[tuple[str, str, str], ...]:
         """The files that have the version, each with a pattern."""
         return (
-            ("crates/fs_arguments/src/cli.rt", "the program", r'VERSION: &str = "(.*)"'),
+            ("crates/atomfs_arguments/src/cli.rt", "the program", r'VERSION: &str = "(.*)"'),
             ("bindings/python/src/atomfs/_header.py", "the package for Python", r'^VERSION = "(.*)"'),
             ("bindings/rust/Cargo.toml", "the package for Rust", r'^version = "(.*)"'),
         )
@@ -871,7 +871,7 @@ class Numbers(Case):
         }
         stripped = {name: [(type.strip(), field) for type, field in fields] for name, fields in of_c.items()}
         self.same("embed/asleep.h", stripped, of_rattle)
-        queues = match_in(r"QUEUES: usize = (\d+);", (CRATES / "fs_wait" / "src" / "sleepers.rt").read_text())[1]
+        queues = match_in(r"QUEUES: usize = (\d+);", (CRATES / "fs_share_wait" / "src" / "sleepers.rt").read_text())[1]
         self.same("its queues", match_in(r"ATOMFS_QUEUES = (\d+)", ASLEEP.read_text())[1], queues)
         self.same("the queues of its structure", re.findall(r"\[Noted; (\d+)\]", rattle), [queues])
 

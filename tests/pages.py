@@ -1,7 +1,7 @@
 """The page that plays a run, `run.html` of the package for Python: a file of ASCII that asks for no other one. It has two scripts, one that reads
 the run and one that shows it, each of at most 400 lines.
 
-The program has this page too, in crates/fs_page/src/template.rt: `python3 tests/pages.py --write` writes that file from `run.html`. What `draw --html`
+The program has this page too, in crates/fs_draw_page/src/template.rt: `python3 tests/pages.py --write` writes that file from `run.html`. What `draw --html`
 writes is this page with the trace, or the journal behind its verdict, and the picture.
 
 Where Chromium is installed it plays drawn runs and journals: the last tree of each is the one at the end of its text. Names that are
@@ -31,7 +31,7 @@ from worked import EXAMPLES, JOURNALS, RUNS, examples
 PAGE = (ROOT / "bindings" / "python" / "src" / "atomfs" / "run.html").read_text("ascii")
 SCRIPTS = re.findall("<script>(.*?)</script>", PAGE, re.S)
 # Where the program has the page, in the parts before the picture, between this and the text, and after the text.
-TEMPLATE = ROOT / "crates" / "fs_page" / "src" / "template.rt"
+TEMPLATE = ROOT / "crates" / "fs_draw_page" / "src" / "template.rt"
 PARTS = (("BEFORE", "before the picture"), ("BETWEEN", "between the picture and the text"), ("AFTER", "after the text"))
 POLICY = '<meta http-equiv="Content-Security-Policy" content="{}">\n'
 # Drawn runs of which the last tree is looked at.

@@ -179,8 +179,8 @@ class Promised(Case):
         """Without a crate it prints all of the product, and of a name that is none it says so."""
         told = subprocess.run([PROMISES], capture_output=True, text=True, check=True).stdout
         self.same("the crates", re.findall(r"^((?:fs_|atomfs)\w*): ", told, re.M), promises.product())
-        one = subprocess.run([PROMISES, "fs_graph", "--full"], capture_output=True, text=True, check=True).stdout
-        self.same("fs_graph", one, "\n".join(promises.printed(ROOT / "crates" / "fs_graph", True)) + "\n")
+        one = subprocess.run([PROMISES, "fs_calls", "--full"], capture_output=True, text=True, check=True).stdout
+        self.same("fs_calls", one, "\n".join(promises.printed(ROOT / "crates" / "fs_calls", True)) + "\n")
         none = subprocess.run([PROMISES, "fs_none"], capture_output=True, text=True)
         self.same(
             "fs_none",
@@ -210,7 +210,7 @@ class Types(Case):
 
     def test_observers_wait_for_nobody(self) -> None:
         """To wait for a lock a call takes the runtime: a session's calls do, and none of an observer's does."""
-        self.same("an observer", self.waiting("fs_observe", "Observer"), [])
+        self.same("an observer", self.waiting("fs_share_observe", "Observer"), [])
         self.same("a session", self.waiting("fs_share", "Session"), ["Session::call", "Session::call_told"])
 
 

@@ -2,10 +2,10 @@
 
 ghost use Rattle.std.specs.Prelude.{◌-◌, ◌<◌, ◌^◌};
 
-use fs_arguments::{Drawing, Subcommand};
-use fs_command::{report_picture, status_of_verdict};
+use atomfs_answers::{report_picture, status_of_verdict};
+use atomfs_arguments::{Drawing, Subcommand};
 use fs_draw::{DrawFault, draw_input};
-use fs_page::draw_page;
+use fs_draw_page::draw_page;
 use fs_sched::{Schedule, Sink, Source};
 use std::alloc::Global;
 use std::io::Write;

@@ -2,22 +2,22 @@
 
 ghost use Rattle.std.specs.Prelude.{◌-◌, ◌<◌, ◌^◌};
 
-use fs_arguments::{Drawing, Histories as Asked, Recorded};
-use fs_command::{
+use atomfs_answers::{
     Kept, Line, Screen, report_draw, report_file, report_learned, report_linearize, report_many,
     report_minimized, report_table, report_unopened, report_unwritten,
 };
-use fs_dialects::{Dialect, known_table, read_dialect};
+use atomfs_arguments::{Drawing, Histories as Asked, Recorded};
 use fs_draw::{DrawFault, View, draw_input};
-use fs_io::Made;
-use fs_minimal::{Minimized, minimize_history};
-use fs_page::noted_page;
-use fs_recorded::{
+use fs_draw_page::noted_page;
+use fs_linearize_dialects::{Dialect, known_table, read_dialect};
+use fs_linearize_minimal::{Minimized, minimize_history};
+use fs_linearize_text::{
     Failing, Histories, Linearized, Outcome, Untold, learn_histories, linearize_bytes,
     linearize_history, linearize_many,
 };
 use fs_sched::{Device, RunFault, Schedule, Sink, Source, write_text};
-use fs_start::whole_text;
+use fs_sched_start::whole_text;
+use fs_verdict::Made;
 use std::alloc::{AllocError, Global};
 use std::fs::{File, create_dir_all};
 use std::io::{self, Write};

@@ -4,14 +4,14 @@
 //! threads on real ones. `atomfs check` reads a journal, `atomfs tree` a journal or a script, and `atomfs linearize` a history. `atomfs
 //! explain` writes what the words of a message mean.
 //!
-//! `fs_arguments` reads the command line, and `fs_command` has the exit statuses. Each part is proved to mean what its clauses say. The
-//! program as a whole, from its arguments to its status, is tested, and so are the words of its messages.
+//! `atomfs_arguments` reads the command line, and `atomfs_answers` has the exit statuses. Each part is proved to mean what its clauses say.
+//! The program as a whole, from its arguments to its status, is tested, and so are the words of its messages.
 #![tactic(auto)]
 
 ghost use Rattle.std.specs.Prelude.{◌-◌, ◌<◌, ◌≤◌, ◌^◌};
-ghost use Rattle.fs_arguments.specs.Commands.{IsWithin};
+ghost use Rattle.atomfs_arguments.specs.Commands.{IsWithin};
 ghost use Rattle.fs_sched.specs.declared.seeding.TheConstants.{SEED_LIMIT};
-ghost use Rattle.fs_find.specs.declared.finding.TheConstants.{SEARCH_LIMIT};
+ghost use Rattle.fs_sched_find.specs.declared.finding.TheConstants.{SEARCH_LIMIT};
 
 mod drawing;
 mod linearizing;
@@ -20,30 +20,31 @@ mod terminals;
 use crate::drawing::{draw, refused_terminal};
 use crate::linearizing::linearize;
 use crate::terminals::{Terminals, excerpts_of, has_no_color, is_in_colours, layout_of};
-use fs_arguments::{Asserted, Format, Invocation, Subcommand, parse};
-use fs_colours::Painting;
-use fs_command::{
+use atomfs_answers::{
     Erasing, Input, Kept, Line, Screen, SharedLine, report, report_asserted, report_check,
     report_draw, report_fault, report_file, report_find, report_from, report_schedule,
     report_shrink, report_trace, report_tree, report_unopened, report_words, status_of_run,
     status_of_unreadable_args, status_of_usage, status_of_verdict, tell_reading,
 };
-use fs_entries::{Notation, trace_input};
+use atomfs_arguments::{Asserted, Format, Invocation, Subcommand, parse};
+use atomfs_colours::Painting;
 use fs_explain::{Topic, explanation};
-use fs_find::{Clauses, FindFault, find_seed, read_what};
-use fs_litmus::{Assertion, assert_outcomes, read_assertion};
-use fs_objects::{check_object, find_object, seed_objects};
-use fs_outcomes::{Form, add_outcomes, run_outcomes};
-use fs_replay::{Asked, ReplayFault, Replayed, read_question, replay_input};
 use fs_sched::{
     Device, RunFault, Schedule, Silent, Sink, Source, Witness, check_journal, run_script,
     run_seeds, write_text,
 };
+use fs_sched_find::{Clauses, FindFault, find_seed, read_what};
+use fs_sched_json::{check_object, find_object, seed_objects};
+use fs_sched_outcomes::{
+    Assertion, Form, add_outcomes, assert_outcomes, read_assertion, run_outcomes,
+};
+use fs_sched_shrink::shrink_script;
+use fs_sched_start::{StartFault, run_from, whole_text};
+use fs_sched_threads::{ThreadsFault, Watch, run_threads};
 use fs_share::Open;
-use fs_shrink::shrink_script;
-use fs_start::{StartFault, run_from, whole_text};
-use fs_threads::{ThreadsFault, Watch, run_threads};
 use fs_trace::{ScheduleFault, schedule_script};
+use fs_trace_entries::{Notation, trace_input};
+use fs_trace_replay::{Asked, ReplayFault, Replayed, read_question, replay_input};
 use std::alloc::Global;
 use std::convert::AsStr;
 use std::fs::File;

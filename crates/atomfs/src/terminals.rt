@@ -1,8 +1,8 @@
 //! Which streams are terminals, and what is in colours and in columns there.
 
-use fs_arguments::{Format, Invocation, Subcommand};
-use fs_colours::Layout;
-use fs_command::{Excerpts, Screen};
+use atomfs_answers::{Excerpts, Screen};
+use atomfs_arguments::{Format, Invocation, Subcommand};
+use atomfs_colours::Layout;
 use std::env::VarError;
 
 /// Which streams are terminals, and whether the environment asks for no colours.

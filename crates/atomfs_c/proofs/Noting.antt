@@ -2,9 +2,9 @@
 use Rattle.std.proofs.Common.{◌≡◌, ℕ, ◌<◌, ◌%◌, List, Some, length, slice_get, get_or, option_map, set, sym, ap, subst, ◌∙◌}
 use Rattle.std.proofs.lemmas.List.{map-set}
 use Rattle.std.proofs.lemmas.Option.{slice_get-map, slice_get-get_or}
-use Rattle.fs_wait.specs.declared.sleepers.Queue.{Queue}
-use Rattle.fs_wait.specs.Sleeping.{Notes, Covers}
-use Rattle.fs_wait.proofs.Covering.{covers_set}
+use Rattle.fs_share_wait.specs.declared.sleepers.Queue.{Queue}
+use Rattle.fs_share_wait.specs.Sleeping.{Notes, Covers}
+use Rattle.fs_share_wait.proofs.Covering.{covers_set}
 use Rattle.atomfs_c.specs.declared.sleepers.Noted.{Noted}
 use Rattle.atomfs_c.specs.Sleepers.{queue_in, queues_in}
 

@@ -2,3 +2,4 @@ pub mod Handles
 pub mod Exports
 pub mod Tools
 pub mod Sleepers
+pub mod ToolTexts

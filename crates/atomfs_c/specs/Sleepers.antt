@@ -3,11 +3,11 @@ use Rattle.std.specs.Prelude.{◌≡◌, ℕ, ◌%◌, ◌==◌, List, Some, map
 use Rattle.fs_machine.specs.States.{Step}
 use Rattle.fs_machine.specs.declared.answers.Stepped.{Stepped}
 use Rattle.fs_machine.specs.declared.answers.Stepped.TheVariants.{Idle, Took, Busy, LetGo, Helped, Committed, CarriedOut, Returned}
-use Rattle.fs_wait.specs.declared.sleepers.Queue.{Queue}
-use Rattle.fs_wait.specs.declared.sleepers.Queue.TheVariants.{Empty, ForOne, ForSeveral}
-use Rattle.fs_wait.specs.declared.sleepers.Wake.{Wake}
-use Rattle.fs_wait.specs.declared.sleepers.Wake.TheVariants.{Nobody, One, All}
-use Rattle.fs_wait.specs.Sleeping.{Covers, one_more, woken_for, IsEnough, IsDue}
+use Rattle.fs_share_wait.specs.declared.sleepers.Queue.{Queue}
+use Rattle.fs_share_wait.specs.declared.sleepers.Queue.TheVariants.{Empty, ForOne, ForSeveral}
+use Rattle.fs_share_wait.specs.declared.sleepers.Wake.{Wake}
+use Rattle.fs_share_wait.specs.declared.sleepers.Wake.TheVariants.{Nobody, One, All}
+use Rattle.fs_share_wait.specs.Sleeping.{Covers, one_more, woken_for, IsEnough, IsDue}
 use Rattle.fs_core.specs.CoreValues.{CoreValue, state_of}
 use Rattle.fs_embed.specs.Calls.{code_of, about_of}
 use Rattle.atomfs_c.specs.declared.sleepers.Noted.{Noted}

@@ -3,16 +3,16 @@ use Rattle.std.specs.Prelude.{◌≡◌, ◌<◌, ◌⊎◌, ℕ, List, [], Opti
 use Rattle.fs_script.specs.Script.{script_of}
 use Rattle.fs_sched.specs.declared.schedule.Schedule.{Schedule}
 use Rattle.fs_sched.specs.declared.seeding.TheConstants.{SEED_LIMIT, RUN_LIMIT}
-use Rattle.fs_recorded.specs.Texts.{history_of}
-use Rattle.fs_recorded.specs.declared.linearizing.TheConstants.{CONFIGURATION_LIMIT}
+use Rattle.fs_linearize_text.specs.Texts.{history_of}
+use Rattle.fs_linearize_text.specs.declared.linearizing.TheConstants.{CONFIGURATION_LIMIT}
 use Rattle.fs_trace.specs.Faults.{IsFaultOfSchedule}
 use Rattle.fs_trace.specs.declared.fault.ScheduleFault.{ScheduleFault}
 use Rattle.fs_draw.specs.Faults.{IsFaultOfPicture}
 use Rattle.fs_draw.specs.declared.fault.DrawFault.{DrawFault}
 use Rattle.fs_embed.specs.Statuses.{TellsFault, TellsNoRun}
 use Rattle.fs_embed.specs.declared.status.TheConstants.{BAD_CHOICE}
-use Rattle.fs_tools.specs.Tools.{IsToldNoPicture, IsToldNoSchedule}
-use Rattle.fs_tools.specs.declared.found.TheConstants.{WORDS}
+use Rattle.atomfs_c.specs.ToolTexts.{IsToldNoPicture, IsToldNoSchedule}
+use Rattle.atomfs_c.specs.declared.found.TheConstants.{WORDS}
 
 -- a status and a line tell why there is no trace: no schedule has the number, or the run has no text
 abbrev pub TellsNoTrace : Option Schedule → List ℕ → ℕ → ℕ → Type 0

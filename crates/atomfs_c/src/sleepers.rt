@@ -1,10 +1,10 @@
 //! Which calls sleep for which node, as C keeps it for a tree that threads share.
 //!
 //! C has the lock, and a list of the calls that sleep in each queue (`embed/shared.c`). After a step it learns here in which queue a call
-//! that waits is to sleep, and whom of a queue it has to wake if a node was let go. `fs_wait` decides both, as for threads in Rattle.
+//! that waits is to sleep, and whom of a queue it has to wake if a node was let go. `fs_share_wait` decides both, as for threads in Rattle.
 
 ghost use Rattle.std.specs.Prelude.{◌≡◌, ◌≢◌, ◌<◌, ◌≤◌, ◌⊎◌, ◌%◌, ℕ, Some, length, slice_get};
-ghost use Rattle.fs_wait.specs.Sleeping.{Notes, Covers, one_more, woken_for, IsEnough, IsDue};
+ghost use Rattle.fs_share_wait.specs.Sleeping.{Notes, Covers, one_more, woken_for, IsEnough, IsDue};
 ghost use Rattle.fs_embed.specs.Statuses.{IsRefusal};
 ghost use Rattle.atomfs_c.specs.Exports.{Goes, ToldIfClosed, IsLawful, IsSpelled};
 ghost use Rattle.atomfs_c.specs.Sleepers.{queue_in, queues_in, whom_of, Wakes, Follows, StepsAmong};
@@ -15,7 +15,7 @@ use fs_embed::status::{CLOSED, NO_SEAT, OK};
 use fs_embed::{StepTold, step_of};
 use fs_names::SeatNo;
 use fs_nodes::NodeNo;
-use fs_wait::{Queue, Wake, queue_of};
+use fs_share_wait::{Queue, Wake, queue_of};
 use std::alloc::Global;
 
 /// What is noted of the calls that sleep in a queue: there are at most so many, and all want this node, unless they want several.

@@ -5,7 +5,7 @@ ghost use Rattle.fs_names.specs.Limits.{node_limit};
 ghost use Rattle.fs_calls.specs.Outcomes.{next_start, play};
 ghost use Rattle.fs_calls.specs.Starts.{Start};
 ghost use Rattle.fs_core.specs.Checkpoints.{IsWhyNot};
-ghost use Rattle.fs_rows.specs.Rows.{IsWithinLimits};
+ghost use Rattle.fs_seq.specs.Rows.{IsWithinLimits};
 ghost use Rattle.fs_timeline.specs.Timeline.{commits};
 ghost use Rattle.fs_script.specs.Journals.{start_of};
 ghost use Rattle.fs_embed.specs.Statuses.{IsRefusal, IsToldWhyNot, fault_status};

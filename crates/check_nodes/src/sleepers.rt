@@ -2,7 +2,7 @@
 
 use anyhow::{Result, ensure};
 use fs_nodes::NodeNo;
-use fs_wait::{QUEUES, Sleepers, Wake};
+use fs_share_wait::{QUEUES, Sleepers, Wake};
 
 /// Threads that sleep for one node are woken one by one, and by no other node of their queue.
 fn one_by_one(sleepers: &mut Sleepers, node: NodeNo, other: NodeNo) -> Result<()> {

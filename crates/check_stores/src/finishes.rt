@@ -4,11 +4,11 @@ use anyhow::{Result, bail, ensure};
 use check_nodes::blocks::bytes_of;
 use fs_blocks::BLOCK;
 use fs_calls::{Call, Data, Reply};
-use fs_finish::Room;
-use fs_finish::write::{truncate, write};
 use fs_memory::Memory;
 use fs_names::{Kind, Limits, Path};
 use fs_nodes::{NodeNo, Store};
+use fs_ops_effects::Room;
+use fs_ops_effects::write::{truncate, write};
 use std::alloc::Global;
 
 /// The limits of both: a file has at most four blocks.

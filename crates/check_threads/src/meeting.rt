@@ -6,7 +6,7 @@ use check_sessions::calls::{
     calls_of, commit_place, has_counts, is_before, lists_of, return_place,
 };
 use fs_names::CallNo;
-use fs_pool::Done;
+use fs_share_pool::Done;
 use std::alloc::Global;
 use std::sync::Wait;
 use std::thread::Threads;

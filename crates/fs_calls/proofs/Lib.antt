@@ -12,3 +12,6 @@ pub mod OutcomeLemmas
 pub mod RenamedTrees
 pub mod TreeLaws
 pub mod WrittenBytes
+pub mod NameLemmas
+pub mod EqualLemmas
+pub mod CycleLemmas

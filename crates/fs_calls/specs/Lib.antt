@@ -7,4 +7,5 @@ pub mod Outcomes
 pub mod Replies
 pub mod Laws
 pub mod Examples
+pub mod Graphs
 pub mod code

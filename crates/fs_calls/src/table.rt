@@ -2,8 +2,8 @@
 //!
 //! `calls!` and `phases!` hand their rows to the macro that a caller names, a reader, which takes the columns that it needs and
 //! writes the arms of one match. So the errors that are looked for, and their order, are written from `calls!` (`rows` and
-//! `path_errors` here), and so is what `Op::next` makes of a call (`fs_ops/src/next.rt`, `fs_finish/src/entries.rt`) and
-//! `Op::carry_out` does (`fs_finish/src/carrying.rt`); from `phases!` how `Op::next` goes on along its walk, and how
+//! `path_errors` here), and so is what `Op::next` makes of a call (`fs_ops/src/next.rt`, `fs_ops_effects/src/entries.rt`) and
+//! `Op::carry_out` does (`fs_ops_effects/src/carrying.rt`); from `phases!` how `Op::next` goes on along its walk, and how
 //! `Core::step` makes a move (`fs_core/src/machine.rt`). The definitions say the same to the prover (`specs/Rows.antt`,
 //! `specs/Forms.antt`), so a row that says another thing is refused where it is read. A word of a row means what its reader says.
 

@@ -14,9 +14,9 @@ use Rattle.fs_timeline.proofs.AppendLemmas.{next_start-push}
 use Rattle.fs_locks.specs.Holding.{holder}
 use Rattle.fs_machine.specs.Records.{Record}
 use Rattle.fs_machine.specs.States.{Run, begun_again}
-use Rattle.fs_numbers.specs.Agreement.{IsHeldBy}
-use Rattle.fs_numbers.proofs.Again.{timelines_begin_again}
-use Rattle.fs_numbers.proofs.Agreement.{parts_agree}
+use Rattle.fs_laws.specs.Agreement.{IsHeldBy}
+use Rattle.fs_laws.proofs.Again.{timelines_begin_again}
+use Rattle.fs_laws.proofs.Agreement.{parts_agree}
 use Rattle.fs_core_seats.specs.declared.seat.Running.{Running}
 use Rattle.fs_core.specs.CoreValues.{CoreValue, state_of, IsAtRest}
 use Rattle.fs_core_seats.specs.Seats.{number_on}

@@ -6,9 +6,8 @@ use Rattle.fs_names.specs.Limits.{in_blocks}
 use Rattle.fs_names.specs.Shapes.{Shape}
 use Rattle.fs_calls.specs.declared.reply.Reply.{Reply}
 use Rattle.fs_nodes.specs.Graphs.{set_at}
-use Rattle.fs_nodes.specs.Stores.{Places}
-use Rattle.fs_nodes.specs.Seen.{seen}
-use Rattle.fs_nodes.specs.Stores.{graph_of}
+use Rattle.fs_nodes.specs.Stores.{Places, graph_of}
+use Rattle.fs_nodes.specs.Seen.{seen, IsReal}
 use Rattle.fs_locks.specs.Holding.{Holding, holder, room}
 use Rattle.fs_locks.specs.declared.word.TheConstants.{CALL_LIMIT}
 use Rattle.fs_timeline.specs.declared.entry.Entry.TheVariants.{Commit, Return}
@@ -33,9 +32,8 @@ use Rattle.fs_core.specs.code.Doing.{Does}
 use Rattle.fs_core.specs.code.Helping.{Helps}
 use Rattle.fs_core.specs.code.Seats.{MovesOn, PlacedOn, PlansOn}
 use Rattle.fs_core_seats.specs.code.Changes.{Goes, placed}
-use Rattle.fs_finish.specs.Plans.{Changes}
-use Rattle.fs_finish.specs.declared.plan.Plan.{Plan}
-use Rattle.fs_nodes.specs.Seen.{IsReal}
+use Rattle.fs_ops_effects.specs.Plans.{Changes}
+use Rattle.fs_ops_effects.specs.declared.plan.Plan.{Plan}
 use Rattle.fs_ops.specs.PlanOf.{HasSetOut, IsPlan, plan_of, IfFinish}
 use Rattle.fs_ops.specs.declared.next.Next.{Next}
 use Rattle.fs_core_seats.proofs.SeatLemmas.{number_read}

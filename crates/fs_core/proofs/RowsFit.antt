@@ -6,9 +6,9 @@ use Rattle.std.proofs.lemmas.List.{map-append, take_more}
 use Rattle.std.proofs.lemmas.Option.{slice_get_within, get_or_from_slice_get}
 use Rattle.fs_names.specs.declared.limits.Limits.{Limits}
 use Rattle.fs_calls.specs.Tree.{Tree, root_tree}
-use Rattle.fs_rows.specs.declared.rows.Row.{Row}
-use Rattle.fs_rows.specs.Rows.{row_of, is_first, is_plain, fits, misfit, misfit_from, IsWithinLimits}
-use Rattle.fs_rows.proofs.Fitting.{fitting_rows_are_trees, root_first}
+use Rattle.fs_seq.specs.declared.rows.Row.{Row}
+use Rattle.fs_seq.specs.Rows.{row_of, is_first, is_plain, fits, misfit, misfit_from, IsWithinLimits}
+use Rattle.fs_seq.proofs.Fitting.{fitting_rows_are_trees, root_first}
 
 -- the rows of a tree within the limits fit
 pub rows_fit : (limits : Limits) (rows : List Row) (t : Tree) → map row_of rows ≡ t → IsTrue (list_all is_plain rows) → IsWithinLimits limits t → misfit limits rows ≡ None

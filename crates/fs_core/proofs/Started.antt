@@ -16,9 +16,9 @@ use Rattle.fs_calls.specs.Sights.{tree_shapes, shape_of}
 use Rattle.fs_calls.proofs.KeyLemmas.{parent_of-snoc}
 use Rattle.fs_calls.proofs.ListLemmas.{true_T}
 use Rattle.fs_calls.proofs.TreeLaws.{tree-inserted}
-use Rattle.fs_rows.specs.declared.rows.Row.{Row}
-use Rattle.fs_rows.specs.Rows.{key_of, row_of, node_of_kind, may_have, last_key, fits}
-use Rattle.fs_rows.proofs.Appended.{AllBelow, all_below, look-above, inserted-last, not_below_root, in_order, first_holds, second_holds}
+use Rattle.fs_seq.specs.declared.rows.Row.{Row}
+use Rattle.fs_seq.specs.Rows.{key_of, row_of, node_of_kind, may_have, last_key, fits}
+use Rattle.fs_seq.proofs.Appended.{AllBelow, all_below, look-above, inserted-last, not_below_root, in_order, first_holds, second_holds}
 use Rattle.fs_nodes.specs.Graphs.{Graph, IsGraph, IsReached, then_at, numbers, graph_shapes, set_at, empty_graph, linked_in, reserved_in}
 use Rattle.fs_nodes.specs.Stores.{used_below}
 use Rattle.fs_machine.specs.States.{IsStart, AreRising}

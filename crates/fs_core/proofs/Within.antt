@@ -11,7 +11,7 @@ use Rattle.fs_timeline.specs.Timeline.{commits}
 use Rattle.fs_calls.specs.Tree as trees
 use Rattle.fs_calls.specs.Tree.{Tree, Node, IsTree, look, names_in}
 use Rattle.fs_calls.specs.Sights.{shape_of}
-use Rattle.fs_rows.specs.Rows.{IsWithinLimits}
+use Rattle.fs_seq.specs.Rows.{IsWithinLimits}
 use Rattle.fs_nodes.specs.Graphs.{Graph, numbers}
 use Rattle.fs_nodes.specs.Stores.{graph_of}
 use Rattle.fs_machine.specs.States.{IsStart, Run}
@@ -19,7 +19,7 @@ use Rattle.fs_laws.specs.Maps.{Map}
 use Rattle.fs_laws.proofs.graphs.Walks.{then_some}
 use Rattle.fs_laws.proofs.trees.Prefixes.{same_refl}
 use Rattle.fs_laws.proofs.trees.SeenAsMaps.{old_has}
-use Rattle.fs_numbers.proofs.Again.{begins_again}
+use Rattle.fs_laws.proofs.Again.{begins_again}
 use Rattle.fs_core.specs.CoreValues.{CoreValue, state_of, IsAtRest}
 use Rattle.fs_core.proofs.Resting.{idle_at_rest}
 

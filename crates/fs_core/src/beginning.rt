@@ -14,13 +14,13 @@ ghost use Rattle.fs_core.specs.Events.{HasRoom};
 ghost use Rattle.fs_machine.specs.declared.answers.Refusal.TheVariants as refusals;
 
 use fs_calls::Call;
-use fs_index::IndexedTimeline;
 use fs_locks::Holders;
 use fs_machine::Refusal;
 use fs_memory::Memory;
 use fs_names::Limits;
 use fs_nodes::{NoNode, NodeNo, Store};
 use fs_ops::Prepared;
+use fs_timeline::IndexedTimeline;
 use std::alloc::{AllocError, Global};
 
 /// How many entries a call appends: it begins, commits and returns.

@@ -2,7 +2,7 @@
 
 ghost use Rattle.std.specs.Prelude.{◌≡◌, ◌≢◌, [], IfOk, IfErr, OnOk, OnErr, Err};
 ghost use Rattle.fs_calls.specs.Outcomes.{next_start};
-ghost use Rattle.fs_rows.specs.Rows.{IsWithinLimits};
+ghost use Rattle.fs_seq.specs.Rows.{IsWithinLimits};
 ghost use Rattle.fs_timeline.specs.Timeline.{commits};
 ghost use Rattle.fs_machine.specs.States.{begun_again};
 ghost use Rattle.fs_core.specs.CoreValues.{state_of, IsAtRest};

@@ -2,7 +2,7 @@
 
 ghost use Rattle.std.specs.Prelude.{◌≡◌, ◌<◌, Some, length, slice_get};
 ghost use Rattle.fs_timeline.specs.Timeline.{commits};
-ghost use Rattle.fs_index.specs.Index.{place_of};
+ghost use Rattle.fs_timeline.specs.Index.{place_of};
 
 use crate::engine::Core;
 use fs_calls::Call;

@@ -7,7 +7,7 @@ ghost use Rattle.fs_nodes.specs.Stores.{graph_of, child, shape, in_use, IsUnlink
 ghost use Rattle.fs_names.specs.Limits.{in_blocks};
 ghost use Rattle.fs_names.specs.Shapes.{File};
 ghost use Rattle.fs_names.specs.declared.limits.TheConstants.{NODE_LIMIT};
-ghost use Rattle.fs_rows.specs.Rows.{IsWithinLimits};
+ghost use Rattle.fs_seq.specs.Rows.{IsWithinLimits};
 ghost use Rattle.fs_locks.specs.Holding.{holder, room};
 ghost use Rattle.fs_machine.specs.States.{IsStart};
 ghost use Rattle.fs_core.specs.code.Filling.{shape_of_row, CanAdd, IsAdded};

@@ -3,7 +3,7 @@
 ghost use Rattle.std.specs.Prelude.{◌≡◌, ◌≢◌, ◌≤◌, ◌<◌, ℕ, [], None, Some, Err, map, length, IfOk, OnOk};
 ghost use Rattle.fs_names.specs.Limits.{node_limit};
 ghost use Rattle.fs_calls.specs.Sights.{tree_shapes};
-ghost use Rattle.fs_rows.specs.Rows.{misfit, row_of, IsWithinLimits};
+ghost use Rattle.fs_seq.specs.Rows.{misfit, row_of, IsWithinLimits};
 ghost use Rattle.fs_nodes.specs.Graphs.{graph_shapes};
 ghost use Rattle.fs_nodes.specs.Stores.{graph_of};
 ghost use Rattle.fs_machine.specs.States.{fresh};

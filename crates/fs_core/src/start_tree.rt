@@ -5,10 +5,10 @@ ghost use Rattle.fs_calls.specs.Outcomes.{called, next_start};
 ghost use Rattle.fs_timeline.specs.Timeline.{commits};
 
 use fs_calls::Call;
-use fs_index::IndexedTimeline;
 use fs_memory::Memory;
 use fs_nodes::{NodeNo, Store};
 use fs_seq::SeqTree;
+use fs_timeline::IndexedTimeline;
 use std::alloc::{AllocError, Global};
 use std::marker::Model;
 use std::mem;

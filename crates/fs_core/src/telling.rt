@@ -17,9 +17,9 @@ ghost use Rattle.fs_laws.specs.Progress.{HasStep, WaitsBelow, IsNeverStuck};
 ghost use Rattle.fs_machine.specs.Laws.{IsDetermined};
 ghost use Rattle.fs_laws.specs.StepsLeft.{TakesWork, AddsWork};
 ghost use Rattle.fs_laws.specs.OneCall.{MeetsTreeAlone};
-ghost use Rattle.fs_numbers.specs.Numbers.{NumbersAreKept};
-ghost use Rattle.fs_numbers.specs.Agreement.{PartsAgree};
-ghost use Rattle.fs_numbers.specs.Holdings.{HoldsFour};
+ghost use Rattle.fs_laws.specs.Numbers.{NumbersAreKept};
+ghost use Rattle.fs_laws.specs.Agreement.{PartsAgree};
+ghost use Rattle.fs_laws.specs.Holdings.{HoldsFour};
 ghost use Rattle.fs_core.specs.CoreValues.{state_of};
 ghost use Rattle.fs_core.specs.Told.{RepliesStay, NamesAnother, DeepestWaitsForOneThatGoesOn};
 

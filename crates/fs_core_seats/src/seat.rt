@@ -12,10 +12,10 @@ ghost use Rattle.fs_core_seats.specs.Seats.{number_of};
 ghost use Rattle.fs_core_seats.specs.code.Changes.{Goes, placed};
 ghost use Rattle.fs_core_seats.specs.declared.seat.Running.{Running};
 
-use fs_finish::Plan;
 use fs_names::CallNo;
 use fs_nodes::{NodeNo, Store};
 use fs_ops::Op;
+use fs_ops_effects::Plan;
 
 /// A pending call: its number, and how far it is. If another call committed it, also how many commits come before its
 /// own.

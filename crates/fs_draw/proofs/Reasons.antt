@@ -13,7 +13,7 @@ use Rattle.fs_sched.specs.Devices.{IsSameText}
 use Rattle.fs_sched.specs.declared.schedule.Schedule.{Schedule}
 use Rattle.fs_verdict.proofs.CheckLemmas.{verdict_short}
 use Rattle.fs_sched.proofs.RunLemmas.{script_short}
-use Rattle.fs_witness.specs.declared.moments.Moment.{Moment}
+use Rattle.fs_sched_witness.specs.declared.moments.Moment.{Moment}
 use Rattle.fs_sched.specs.Watching.{Watches}
 use Rattle.fs_sched.specs.declared.watching.Ran.{Ran}
 use Rattle.fs_draw.specs.Faults.{HasFault, HasFaultAs}

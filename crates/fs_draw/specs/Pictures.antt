@@ -8,9 +8,9 @@ use Rattle.fs_sched.specs.Checks.{is_lawful, verdict_of}
 use Rattle.fs_sched.specs.Runs.{Stage, end_of}
 use Rattle.fs_sched.specs.declared.running.RunEnd.{RunEnd}
 use Rattle.fs_sched.specs.declared.schedule.Schedule.{Schedule}
-use Rattle.fs_witness.specs.Moments.{entries_told}
+use Rattle.fs_sched_witness.specs.Moments.{entries_told}
 use Rattle.fs_sched.specs.Moments.{TellsRun}
-use Rattle.fs_witness.specs.declared.moments.Moment.{Moment}
+use Rattle.fs_sched_witness.specs.declared.moments.Moment.{Moment}
 
 -- whether an input is read as a journal: by its first bytes
 abbrev pub is_journal : List ℕ → Bool

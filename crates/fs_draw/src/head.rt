@@ -1,9 +1,9 @@
 //! The head of a picture: its colours, what it is for who listens to it, and its headline.
 
 use crate::news::Heading;
-use fs_ink::Ink;
-use fs_layout::{heading_room, label_room, less};
-use fs_scene::{Scene, push_cut};
+use fs_draw_ink::Ink;
+use fs_draw_layout::{heading_room, label_room, less};
+use fs_draw_scene::{Scene, push_cut};
 use std::alloc::{AllocError, Global};
 
 /// The colours, on light ground, on dark ground and in print; the hatch; and the ground.

@@ -1,8 +1,8 @@
 //! The legend: what the signs of a picture mean.
 
-use fs_ink::Ink;
-use fs_layout::{add, less};
-use fs_scene::{Scene, What};
+use fs_draw_ink::Ink;
+use fs_draw_layout::{add, less};
+use fs_draw_scene::{Scene, What};
 use std::alloc::{AllocError, Global};
 
 /// How wide a column of the legend is, and how high a row of it.

@@ -5,9 +5,9 @@
 //! the script that was read or of its journal. They also say that the answer reports whether that went well. What the picture shows is
 //! tested, and not proved.
 //!
-//! `fs_scene` has what is drawn, `fs_layout` where, and `fs_ink` writes the rows. Here `news` writes the headline, `tree_text` the trees,
-//! `legend` what the signs mean, and `picture` puts all together. `docs/PICTURES.md` says it too. The definitions are in `specs/`:
-//! `Pictures`, and `Faults` with the statuses. `specs/code/` ties the code to them, and changes no meaning.
+//! `fs_draw_scene` has what is drawn, `fs_draw_layout` where, and `fs_draw_ink` writes the rows. Here `news` writes the headline,
+//! `tree_text` the trees, `legend` what the signs mean, and `picture` puts all together. `docs/PICTURES.md` says it too. The definitions
+//! are in `specs/`: `Pictures`, and `Faults` with the statuses. `specs/code/` ties the code to them, and changes no meaning.
 #![tactic(auto)]
 
 mod fault;

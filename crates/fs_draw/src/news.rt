@@ -1,7 +1,7 @@
 //! The headline of a picture, which says the news, and how much there is to see.
 
-use fs_ink::Ink;
-use fs_scene::{Card, Reported, Scene, What, push_call_of, push_cut};
+use fs_draw_ink::Ink;
+use fs_draw_scene::{Card, Reported, Scene, What, push_call_of, push_cut};
 use fs_text::errno_text;
 use std::alloc::{AllocError, Global};
 

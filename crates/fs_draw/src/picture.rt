@@ -7,9 +7,11 @@ use crate::head::{heading_end, write_head};
 use crate::legend::write_legend;
 use crate::news::heading_of;
 use crate::tree_text::write_trees;
-use fs_ink::{Canvas, Ink};
-use fs_layout::{Frame, Places, ROW_GAP, Rows, add, bands_of, frame_of, heading_width, places_of};
-use fs_scene::Scene;
+use fs_draw_ink::{Canvas, Ink};
+use fs_draw_layout::{
+    Frame, Places, ROW_GAP, Rows, add, bands_of, frame_of, heading_width, places_of,
+};
+use fs_draw_scene::Scene;
 use std::alloc::{AllocError, Global};
 
 /// The least width of a picture, if none is asked for.

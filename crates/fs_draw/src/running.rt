@@ -12,11 +12,11 @@ ghost use Rattle.fs_draw.specs.code.Mades.{MakesPicture, out_of_memory};
 use crate::fault::DrawFault;
 use crate::picture::picture_of;
 use crate::view::View;
-use fs_io::{Made, Sink, Source, transform};
+use fs_draw_scene::{Scene, Strip, folded, scene_of_journal, scene_of_run};
 use fs_journal::check_from;
-use fs_scene::{Scene, Strip, folded, scene_of_journal, scene_of_run};
 use fs_sched::{RunFault, Schedule, between, is_lawful, journal_in, script_in, watch};
-use fs_story::Teller;
+use fs_trace_story::Teller;
+use fs_verdict::{Made, Sink, Source, transform};
 use std::alloc::Global;
 
 /// The fault where memory ran out.

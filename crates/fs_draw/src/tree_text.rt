@@ -1,8 +1,8 @@
 //! The trees before and after commits, written side by side.
 
-use fs_ink::Ink;
-use fs_layout::{Frame, add, digits, less, small_room, small_width};
-use fs_scene::{ELLIPSIS, Leaf, Scene, Tree, When, push_apart, push_cut};
+use fs_draw_ink::Ink;
+use fs_draw_layout::{Frame, add, digits, less, small_room, small_width};
+use fs_draw_scene::{ELLIPSIS, Leaf, Scene, Tree, When, push_apart, push_cut};
 use std::alloc::{AllocError, Global};
 
 /// The height of a line, how far a line is right of that of its directory, and how far trees are apart.

@@ -6,3 +6,17 @@ pub mod events
 pub mod helping
 pub mod journal
 pub mod states
+pub mod Edits
+pub mod Moves
+pub mod Finishes
+pub mod Steps
+pub mod Reaching
+pub mod Leaks
+pub mod Composing
+pub mod Swaps
+pub mod Twins
+pub mod Counting
+pub mod Holdings
+pub mod Agreement
+pub mod Again
+pub mod Ending

@@ -6,7 +6,7 @@ use Rattle.fs_calls.specs.Starts.{Start}
 use Rattle.fs_calls.specs.Sights.{tree_shapes}
 use Rattle.fs_calls.specs.declared.call.Call.{Call}
 use Rattle.fs_calls.specs.declared.reply.Reply.{Reply}
-use Rattle.fs_graph.specs.Graphs.{at, graph_shapes}
+use Rattle.fs_calls.specs.Graphs.{at, graph_shapes}
 use Rattle.fs_timeline.specs.Timeline as journal
 use Rattle.fs_timeline.specs.declared.entry.Entry.{Entry}
 use Rattle.fs_machine.specs.Moves.{next}

@@ -8,7 +8,7 @@ use Rattle.fs_calls.specs.declared.call.Call.{Call}
 use Rattle.fs_calls.specs.declared.call.Call.TheVariants.{Mkdir, Mknod, Unlink, Rmdir, Rename, Exchange, Write}
 use Rattle.fs_calls.specs.declared.errno.Errno.TheVariants.{Eexist, Ebusy, Eperm, Enotempty}
 use Rattle.fs_calls.specs.declared.reply.Reply.TheVariants.{Done, Wrote, Failed}
-use Rattle.fs_graph.specs.Graphs.{graph_shapes, used_below}
+use Rattle.fs_calls.specs.Graphs.{graph_shapes, used_below}
 use Rattle.fs_timeline.specs.declared.entry.Entry.TheVariants.{Begin, Commit, Return}
 use Rattle.fs_laws.specs.Events.{Event, Begins, Steps, Ran}
 use Rattle.fs_machine.specs.declared.answers.Stepped.{Stepped}

@@ -9,7 +9,7 @@ use Rattle.fs_calls.specs.Starts.{Start}
 use Rattle.fs_calls.specs.declared.call.Call.{Call}
 use Rattle.fs_timeline.specs.declared.entry.Entry.{Entry}
 use Rattle.fs_timeline.specs.declared.entry.Entry.TheVariants.{Begin, Commit, Return}
-use Rattle.fs_graph.specs.Graphs.{set_at}
+use Rattle.fs_calls.specs.Graphs.{set_at}
 use Rattle.fs_laws.specs.Maps.{Map}
 use Rattle.fs_calls.specs.declared.reply.Reply.{Reply}
 

@@ -12,3 +12,11 @@ pub mod OneCall
 pub mod Laws
 pub mod Maps
 pub mod Changes
+pub mod Renamings
+pub mod Numbers
+pub mod Twins
+pub mod Holdings
+pub mod Agreement
+pub mod NumberLaws
+pub mod Endings
+pub mod EndingLaws

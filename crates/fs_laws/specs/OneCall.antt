@@ -5,7 +5,7 @@ use Rattle.fs_calls.specs.Sights.{tree_shapes}
 use Rattle.fs_calls.specs.Tree.{Tree, IsTree}
 use Rattle.fs_calls.specs.declared.call.Call.{Call}
 use Rattle.fs_calls.specs.declared.reply.Reply.{Reply}
-use Rattle.fs_graph.specs.Graphs.{graph_shapes}
+use Rattle.fs_calls.specs.Graphs.{graph_shapes}
 use Rattle.fs_machine.specs.Headline.{IsIdle}
 use Rattle.fs_machine.specs.States.{State, Begins, Step}
 use Rattle.fs_machine.specs.declared.answers.Stepped.{Stepped}

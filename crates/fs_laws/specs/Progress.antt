@@ -2,7 +2,7 @@
 use Rattle.std.specs.Prelude.{ℕ, ◌≡◌, Some}
 use Rattle.fs_names.specs.Keys.{Key}
 use Rattle.fs_names.specs.Parts.{HasNames}
-use Rattle.fs_graph.specs.Graphs.{at}
+use Rattle.fs_calls.specs.Graphs.{at}
 use Rattle.fs_machine.specs.Moves.{next}
 use Rattle.fs_machine.specs.declared.moves.Move.TheVariants.{Take as Takes}
 use Rattle.fs_machine.specs.Records.{Holdings, Record}

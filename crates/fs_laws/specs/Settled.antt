@@ -6,7 +6,7 @@ use Rattle.fs_laws.specs.Changes.{reply, after}
 use Rattle.fs_calls.specs.Forms.{Form, AtNode, AtEntry, AtPair, under}
 use Rattle.fs_laws.specs.Maps.{Map}
 use Rattle.fs_calls.specs.declared.reply.Reply.{Reply}
-use Rattle.fs_graph.specs.Graphs.{Graph}
+use Rattle.fs_calls.specs.Graphs.{Graph}
 use Rattle.fs_machine.specs.Finishes.{Effect, finish}
 use Rattle.fs_machine.specs.Moves.{next, took, left_holdings}
 use Rattle.fs_machine.specs.declared.moves.Move.{Move}

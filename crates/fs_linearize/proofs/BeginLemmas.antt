@@ -11,11 +11,11 @@ use Rattle.fs_timeline.specs.Timeline.{has_begun, begun_as, call_of, IsNext, Eac
 use Rattle.fs_timeline.specs.declared.entry.Entry.{Entry}
 use Rattle.fs_timeline.specs.declared.entry.Entry.TheVariants.{Begin, Commit, Return}
 use Rattle.fs_timeline.proofs.AppendLemmas.{is_some-call_of}
-use Rattle.fs_histories.specs.declared.heard.Heard.{Heard}
-use Rattle.fs_histories.specs.declared.heard.Heard.TheVariants as heard
-use Rattle.fs_histories.specs.Heard.{entry_of, entries}
-use Rattle.fs_histories.specs.Histories.{IsHistory, IsNextHeard, AreNextHeard}
-use Rattle.fs_histories.proofs.HistoryLemmas.{none_from}
+use Rattle.fs_linearize_histories.specs.declared.heard.Heard.{Heard}
+use Rattle.fs_linearize_histories.specs.declared.heard.Heard.TheVariants as heard
+use Rattle.fs_linearize_histories.specs.Heard.{entry_of, entries}
+use Rattle.fs_linearize_histories.specs.Histories.{IsHistory, IsNextHeard, AreNextHeard}
+use Rattle.fs_linearize_histories.proofs.HistoryLemmas.{none_from}
 
 pub call_append : (c : ℕ) (xs ys : List Entry) → call_of c (xs ++ ys) ≡ or_else (call_of c xs) (call_of c ys)
 call_append c [] ys = refl

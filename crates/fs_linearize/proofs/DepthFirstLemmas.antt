@@ -3,20 +3,20 @@ use Rattle.std.proofs.Common.{◌≡◌, ◌+◌, ℕ, List, [], ◌∷◌, ◌+
 use Rattle.std.specs.List.{Contains}
 use Rattle.std.proofs.lemmas.List.Elements.{Contains-append_left, Contains-push, Contains-push_cases}
 use Rattle.fs_calls.specs.Starts.{Start}
-use Rattle.fs_histories.specs.declared.heard.Heard.{Heard}
-use Rattle.fs_histories.specs.Configurations.{at_start}
-use Rattle.fs_configurations.specs.code.Calls.{AreEach, AreUnderWay, IsUnderWay}
-use Rattle.fs_configurations.specs.code.Ways.{IsLed, Keeps}
-use Rattle.fs_configurations.specs.code.Searching.{PassesTo, ReachesTo}
+use Rattle.fs_linearize_histories.specs.declared.heard.Heard.{Heard}
+use Rattle.fs_linearize_histories.specs.Configurations.{at_start}
+use Rattle.fs_linearize_configurations.specs.code.Calls.{AreEach, AreUnderWay, IsUnderWay}
+use Rattle.fs_linearize_configurations.specs.code.Ways.{IsLed, Keeps}
+use Rattle.fs_linearize_configurations.specs.code.Searching.{PassesTo, ReachesTo}
 use Rattle.fs_linearize.specs.code.DepthFirst.{IsHere, GoesOn, IsChoice, AreChoices}
 use Rattle.fs_linearize.specs.declared.depth_first.Choice.{Choice}
 use Rattle.fs_linearize.specs.declared.depth_first.Here.{Here}
-use Rattle.fs_configurations.specs.declared.reached.Reached.{Reached}
-use Rattle.fs_configurations.specs.declared.steps.Link.{Link}
+use Rattle.fs_linearize_configurations.specs.declared.reached.Reached.{Reached}
+use Rattle.fs_linearize_configurations.specs.declared.steps.Link.{Link}
 use Rattle.fs_linearize.specs.declared.turns.Turn.{Turn}
-use Rattle.fs_configurations.specs.declared.under_way.UnderWay.{UnderWay}
-use Rattle.fs_configurations.proofs.CallLemmas.{none_under_way}
-use Rattle.fs_configurations.proofs.WayLemmas.{keeps_same, keeps_on, led_start}
+use Rattle.fs_linearize_configurations.specs.declared.under_way.UnderWay.{UnderWay}
+use Rattle.fs_linearize_configurations.proofs.CallLemmas.{none_under_way}
+use Rattle.fs_linearize_configurations.proofs.WayLemmas.{keeps_same, keeps_on, led_start}
 
 -- ---- what is kept
 

@@ -8,28 +8,28 @@ use Rattle.fs_calls.specs.Tree.{IsTree}
 use Rattle.fs_calls.specs.Starts.{Start, start_tree}
 use Rattle.fs_timeline.specs.declared.entry.Entry.{Entry}
 use Rattle.fs_linearizable.specs.Linearizable.{history}
-use Rattle.fs_histories.specs.declared.heard.Heard.{Heard}
-use Rattle.fs_histories.specs.declared.heard.Heard.TheVariants.{Begin, Return}
-use Rattle.fs_histories.specs.Histories.{Explains, ExplainsFront, HasNoFront}
-use Rattle.fs_histories.specs.Configurations.{Configuration, at_start, passed, returned, committed, FollowedBy, IsFollowed}
-use Rattle.fs_histories.specs.Early.{SettlesIn}
-use Rattle.fs_histories.specs.Paths.{LeadsTo}
-use Rattle.fs_histories.specs.Laws.{IsClosed}
-use Rattle.fs_histories.proofs.Reaching.{closed_set_reaches, closed_set_refutes}
-use Rattle.fs_histories.specs.Apart.{AreApart}
+use Rattle.fs_linearize_histories.specs.declared.heard.Heard.{Heard}
+use Rattle.fs_linearize_histories.specs.declared.heard.Heard.TheVariants.{Begin, Return}
+use Rattle.fs_linearize_histories.specs.Histories.{Explains, ExplainsFront, HasNoFront}
+use Rattle.fs_linearize_histories.specs.Configurations.{Configuration, at_start, passed, returned, committed, FollowedBy, IsFollowed}
+use Rattle.fs_linearize_histories.specs.Early.{SettlesIn}
+use Rattle.fs_linearize_histories.specs.Paths.{LeadsTo}
+use Rattle.fs_linearize_histories.specs.Laws.{IsClosed}
+use Rattle.fs_linearize_histories.proofs.Reaching.{closed_set_reaches, closed_set_refutes}
+use Rattle.fs_linearize_histories.specs.Apart.{AreApart}
 use Rattle.fs_linearize.specs.Limited.{WasLimited}
-use Rattle.fs_configurations.specs.code.Calls.{AreEach, AreUnderWay}
-use Rattle.fs_configurations.specs.code.Ways.{GoesBy, GoesBack, IsLed, AllLed, configurations}
-use Rattle.fs_configurations.specs.code.Searching.{AllAt, IsReady, WidensFor, HasPassed, PassesAll, IsFirst}
-use Rattle.fs_configurations.specs.declared.reached.Reached.{Reached}
-use Rattle.fs_configurations.specs.declared.steps.Link.{Link}
-use Rattle.fs_configurations.specs.declared.steps.Step.{Step}
-use Rattle.fs_configurations.specs.declared.under_way.UnderWay.{UnderWay}
-use Rattle.fs_configurations.proofs.CallLemmas.{can_now, none_under_way}
-use Rattle.fs_configurations.proofs.LayerLemmas.{apart_append}
-use Rattle.fs_configurations.proofs.NearLemmas.{near_numbers, near_found, is_near, led_tree}
-use Rattle.fs_configurations.proofs.SearchLemmas.{none_there}
-use Rattle.fs_configurations.proofs.WayLemmas.{led_start, contains_configuration, contains_way}
+use Rattle.fs_linearize_configurations.specs.code.Calls.{AreEach, AreUnderWay}
+use Rattle.fs_linearize_configurations.specs.code.Ways.{GoesBy, GoesBack, IsLed, AllLed, configurations}
+use Rattle.fs_linearize_configurations.specs.code.Searching.{AllAt, IsReady, WidensFor, HasPassed, PassesAll, IsFirst}
+use Rattle.fs_linearize_configurations.specs.declared.reached.Reached.{Reached}
+use Rattle.fs_linearize_configurations.specs.declared.steps.Link.{Link}
+use Rattle.fs_linearize_configurations.specs.declared.steps.Step.{Step}
+use Rattle.fs_linearize_configurations.specs.declared.under_way.UnderWay.{UnderWay}
+use Rattle.fs_linearize_configurations.proofs.CallLemmas.{can_now, none_under_way}
+use Rattle.fs_linearize_configurations.proofs.LayerLemmas.{apart_append}
+use Rattle.fs_linearize_configurations.proofs.NearLemmas.{near_numbers, near_found, is_near, led_tree}
+use Rattle.fs_linearize_configurations.proofs.SearchLemmas.{none_there}
+use Rattle.fs_linearize_configurations.proofs.WayLemmas.{led_start, contains_configuration, contains_way}
 
 -- ---- sets of configurations
 

@@ -4,11 +4,11 @@ use Rattle.std.proofs.lemmas.List.{drop_all}
 use Rattle.std.proofs.Math.Seq.{drop-cons}
 use Rattle.fs_names.specs.Failures.{or_else}
 use Rattle.fs_timeline.specs.declared.entry.Entry.{Entry}
-use Rattle.fs_histories.specs.declared.heard.Heard.{Heard}
-use Rattle.fs_histories.specs.declared.fault.HistoryFault.{HistoryFault}
-use Rattle.fs_histories.specs.Heard.{entries}
-use Rattle.fs_histories.specs.Faults.{heard_fault, fault_at, fault_from, history_fault}
-use Rattle.fs_configurations.proofs.HeardLemmas.{entries_more}
+use Rattle.fs_linearize_histories.specs.declared.heard.Heard.{Heard}
+use Rattle.fs_linearize_histories.specs.declared.fault.HistoryFault.{HistoryFault}
+use Rattle.fs_linearize_histories.specs.Heard.{entries}
+use Rattle.fs_linearize_histories.specs.Faults.{heard_fault, fault_at, fault_from, history_fault}
+use Rattle.fs_linearize_configurations.proofs.HeardLemmas.{entries_more}
 
 -- the first fault among those that are left
 fault_split : (h : List Heard) (i : ℕ) (x : Heard) → i < length h → x ≡ get_or h i x

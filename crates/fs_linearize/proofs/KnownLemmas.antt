@@ -11,11 +11,11 @@ use Rattle.fs_timeline.specs.declared.entry.Entry.TheVariants as entry
 use Rattle.fs_timeline.proofs.AppendLemmas.{or_false, list_any-push, last_on-push}
 use Rattle.fs_calls.specs.declared.call.Call.{Call}
 use Rattle.fs_calls.specs.declared.reply.Reply.TheVariants as answer
-use Rattle.fs_histories.specs.declared.heard.Heard.{Heard}
-use Rattle.fs_histories.specs.declared.heard.Heard.TheVariants.{Begin, Return}
-use Rattle.fs_histories.specs.declared.heard.Pattern.{Pattern}
-use Rattle.fs_histories.specs.declared.fault.HistoryFault.TheVariants.{BeginTwice, SeatBusy, ReturnUnbegun, ReturnTwice}
-use Rattle.fs_histories.specs.Faults.{heard_fault}
+use Rattle.fs_linearize_histories.specs.declared.heard.Heard.{Heard}
+use Rattle.fs_linearize_histories.specs.declared.heard.Heard.TheVariants.{Begin, Return}
+use Rattle.fs_linearize_histories.specs.declared.heard.Pattern.{Pattern}
+use Rattle.fs_linearize_histories.specs.declared.fault.HistoryFault.TheVariants.{BeginTwice, SeatBusy, ReturnUnbegun, ReturnTwice}
+use Rattle.fs_linearize_histories.specs.Faults.{heard_fault}
 use Rattle.fs_linearize.specs.code.Knowing.{IsKnown, is_left}
 use Rattle.fs_linearize.specs.declared.faults.Known.{Known}
 

@@ -1,11 +1,11 @@
 -- What an answer says of linearizable histories.
 use Rattle.std.proofs.Common.{◌≡◌, ℕ, List, Some, None, subst}
 use Rattle.fs_calls.specs.Starts.{Start}
-use Rattle.fs_histories.specs.Faults.{history_fault}
-use Rattle.fs_histories.specs.declared.fault.HistoryFault.{HistoryFault}
-use Rattle.fs_histories.specs.declared.heard.Heard.{Heard}
-use Rattle.fs_histories.proofs.FaultLemmas.{explained_are_histories, faults_are_first}
-use Rattle.fs_histories.proofs.LinearizableLemmas.{explained_are_linearizable}
+use Rattle.fs_linearize_histories.specs.Faults.{history_fault}
+use Rattle.fs_linearize_histories.specs.declared.fault.HistoryFault.{HistoryFault}
+use Rattle.fs_linearize_histories.specs.declared.heard.Heard.{Heard}
+use Rattle.fs_linearize_histories.proofs.FaultLemmas.{explained_are_histories, faults_are_first}
+use Rattle.fs_linearize_histories.proofs.LinearizableLemmas.{explained_are_linearizable}
 use Rattle.fs_linearize.specs.Results.{IsHeardLinearizable}
 use Rattle.fs_linearize.specs.code.Searched.{IsSearched}
 use Rattle.fs_linearize.specs.declared.search.Searched.{Searched}

@@ -6,12 +6,12 @@ use Rattle.fs_calls.specs.Starts.{Start}
 use Rattle.fs_calls.specs.declared.call.Call.{Call}
 use Rattle.fs_timeline.specs.declared.entry.Entry.{Entry}
 use Rattle.fs_timeline.specs.declared.entry.Entry.TheVariants.{Begin}
-use Rattle.fs_histories.specs.declared.heard.Heard.{Heard}
-use Rattle.fs_histories.specs.declared.heard.Heard.TheVariants as heard
-use Rattle.fs_histories.specs.Histories.{IsHistory, Explains, HasNoOrder, HasNoFront}
-use Rattle.fs_histories.proofs.LinearizableLemmas.{explained_are_linearizable}
-use Rattle.fs_histories.proofs.NumberingLemmas.{configurations_are_few}
-use Rattle.fs_histories.proofs.PrefixLemmas.{explained_take, begun_explained}
+use Rattle.fs_linearize_histories.specs.declared.heard.Heard.{Heard}
+use Rattle.fs_linearize_histories.specs.declared.heard.Heard.TheVariants as heard
+use Rattle.fs_linearize_histories.specs.Histories.{IsHistory, Explains, HasNoOrder, HasNoFront}
+use Rattle.fs_linearize_histories.proofs.LinearizableLemmas.{explained_are_linearizable}
+use Rattle.fs_linearize_histories.proofs.NumberingLemmas.{configurations_are_few}
+use Rattle.fs_linearize_histories.proofs.PrefixLemmas.{explained_take, begun_explained}
 use Rattle.fs_linearize.specs.Limited.{WasLimited}
 use Rattle.fs_linearize.specs.Possible.{ArePossible}
 use Rattle.fs_linearize.specs.Results.{IsReturnAt}

@@ -11,15 +11,15 @@ use Rattle.fs_timeline.specs.declared.entry.Entry.{Entry}
 use Rattle.fs_timeline.specs.declared.entry.Entry.TheVariants.{Begin, Commit, Return}
 use Rattle.fs_timeline.proofs.AppendLemmas.{is_some-call_of}
 use Rattle.fs_timeline.proofs.TimelineLemmas.{well_formed_appended}
-use Rattle.fs_histories.specs.declared.heard.Heard.{Heard}
-use Rattle.fs_histories.specs.Heard.{IsHeardAs, entries}
-use Rattle.fs_histories.specs.Histories.{Explains}
-use Rattle.fs_histories.proofs.HistoryLemmas.{some_from, explained_front, passed_call}
-use Rattle.fs_configurations.specs.code.Ways.{GoesBy}
+use Rattle.fs_linearize_histories.specs.declared.heard.Heard.{Heard}
+use Rattle.fs_linearize_histories.specs.Heard.{IsHeardAs, entries}
+use Rattle.fs_linearize_histories.specs.Histories.{Explains}
+use Rattle.fs_linearize_histories.proofs.HistoryLemmas.{some_from, explained_front, passed_call}
+use Rattle.fs_linearize_configurations.specs.code.Ways.{GoesBy}
 use Rattle.fs_linearize.specs.code.Tellings.{IsPlayed, IsOfStep, PlaysStep}
 use Rattle.fs_linearize.specs.declared.telling.Played.{Played}
-use Rattle.fs_configurations.specs.declared.steps.Step.{Step}
-use Rattle.fs_configurations.specs.declared.steps.Step.TheVariants.{Passes, Commits}
+use Rattle.fs_linearize_configurations.specs.declared.steps.Step.{Step}
+use Rattle.fs_linearize_configurations.specs.declared.steps.Step.TheVariants.{Passes, Commits}
 use Rattle.fs_linearize.proofs.BeginLemmas.{call_append}
 use Rattle.fs_linearize.proofs.TellingLemmas.{each_front, plays_other, plays_commit}
 

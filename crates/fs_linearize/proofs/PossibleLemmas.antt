@@ -10,22 +10,22 @@ use Rattle.fs_timeline.specs.Timeline.{has_committed, due}
 use Rattle.fs_timeline.specs.declared.entry.Entry.{Entry}
 use Rattle.fs_timeline.proofs.AppendLemmas.{committed_first}
 use Rattle.fs_timeline.proofs.ReplyLemmas.{same_reply_exact, same_reply_refl}
-use Rattle.fs_histories.specs.declared.heard.Heard.{Heard}
-use Rattle.fs_histories.specs.declared.heard.Heard.TheVariants.{Return}
-use Rattle.fs_histories.specs.declared.heard.Pattern.{Pattern}
-use Rattle.fs_histories.specs.declared.heard.Pattern.TheVariants.{Exactly, Except}
-use Rattle.fs_histories.specs.Heard.{Matches, is_among}
-use Rattle.fs_histories.specs.Histories.{IsHistory, Explains, CouldReply}
-use Rattle.fs_histories.proofs.HistoryLemmas.{take_step}
-use Rattle.fs_histories.proofs.PrefixLemmas.{history_take, returned_otherwise, answers_last, answers_due}
+use Rattle.fs_linearize_histories.specs.declared.heard.Heard.{Heard}
+use Rattle.fs_linearize_histories.specs.declared.heard.Heard.TheVariants.{Return}
+use Rattle.fs_linearize_histories.specs.declared.heard.Pattern.{Pattern}
+use Rattle.fs_linearize_histories.specs.declared.heard.Pattern.TheVariants.{Exactly, Except}
+use Rattle.fs_linearize_histories.specs.Heard.{Matches, is_among}
+use Rattle.fs_linearize_histories.specs.Histories.{IsHistory, Explains, CouldReply}
+use Rattle.fs_linearize_histories.proofs.HistoryLemmas.{take_step}
+use Rattle.fs_linearize_histories.proofs.PrefixLemmas.{history_take, returned_otherwise, answers_last, answers_due}
 use Rattle.fs_linearize.specs.Possible.{AreDifferent, ArePossible}
 use Rattle.fs_linearize.specs.Results.{IsReturnAt}
-use Rattle.fs_configurations.specs.code.Ways.{GoesBy}
+use Rattle.fs_linearize_configurations.specs.code.Ways.{GoesBy}
 use Rattle.fs_linearize.specs.code.Searched.{IsSearched}
 use Rattle.fs_linearize.specs.code.Replies.{IsAnother}
 use Rattle.fs_linearize.specs.declared.search.Searched.{Searched}
 use Rattle.fs_linearize.specs.declared.search.Searched.TheVariants.{Ends}
-use Rattle.fs_configurations.specs.declared.steps.Step.{Step}
+use Rattle.fs_linearize_configurations.specs.declared.steps.Step.{Step}
 use Rattle.fs_linearize.specs.declared.replies.Another.{Another}
 use Rattle.fs_linearize.specs.declared.replies.Possible.{Possible}
 use Rattle.fs_linearize.specs.declared.replies.TheConstants.{MOST_REPLIES}

@@ -4,20 +4,20 @@ use Rattle.std.specs.List.{Contains}
 use Rattle.std.proofs.lemmas.Bool.{both_ways, or_parts, or_cases}
 use Rattle.std.proofs.lemmas.List.Elements.{Contains-append_left, Contains-append_cases, Contains-push_cases}
 use Rattle.fs_calls.specs.Starts.{Start}
-use Rattle.fs_histories.specs.declared.heard.Heard.{Heard}
-use Rattle.fs_histories.specs.declared.heard.Heard.TheVariants.{Begin, Return}
-use Rattle.fs_histories.specs.Histories.{HasNoFront}
-use Rattle.fs_histories.specs.Configurations.{Configuration, is_in}
-use Rattle.fs_histories.specs.Early.{SettlesIn}
-use Rattle.fs_configurations.specs.code.Stopping.{is_held, Returns, CanPass}
-use Rattle.fs_configurations.specs.code.Searching.{WidensFor, HasPassed, PassesAll}
-use Rattle.fs_configurations.specs.code.Ways.{configurations}
-use Rattle.fs_configurations.specs.declared.reached.Reached.{Reached}
-use Rattle.fs_configurations.specs.declared.steps.Link.{Link}
-use Rattle.fs_configurations.specs.declared.under_way.UnderWay.{UnderWay}
+use Rattle.fs_linearize_histories.specs.declared.heard.Heard.{Heard}
+use Rattle.fs_linearize_histories.specs.declared.heard.Heard.TheVariants.{Begin, Return}
+use Rattle.fs_linearize_histories.specs.Histories.{HasNoFront}
+use Rattle.fs_linearize_histories.specs.Configurations.{Configuration, is_in}
+use Rattle.fs_linearize_histories.specs.Early.{SettlesIn}
+use Rattle.fs_linearize_configurations.specs.code.Stopping.{is_held, Returns, CanPass}
+use Rattle.fs_linearize_configurations.specs.code.Searching.{WidensFor, HasPassed, PassesAll}
+use Rattle.fs_linearize_configurations.specs.code.Ways.{configurations}
+use Rattle.fs_linearize_configurations.specs.declared.reached.Reached.{Reached}
+use Rattle.fs_linearize_configurations.specs.declared.steps.Link.{Link}
+use Rattle.fs_linearize_configurations.specs.declared.under_way.UnderWay.{UnderWay}
 use Rattle.fs_linearize.proofs.FindingLemmas.{Stands, no_order}
-use Rattle.fs_configurations.proofs.SearchLemmas.{none_there}
-use Rattle.fs_configurations.proofs.WayLemmas.{keeps_same, contains_way}
+use Rattle.fs_linearize_configurations.proofs.SearchLemmas.{none_there}
+use Rattle.fs_linearize_configurations.proofs.WayLemmas.{keeps_same, contains_way}
 
 -- ---- whether a call has committed in a configuration
 

@@ -15,19 +15,19 @@ use Rattle.fs_timeline.specs.declared.entry.Entry.TheVariants.{Begin, Commit, Re
 use Rattle.fs_timeline.proofs.AppendLemmas.{begun_first, is_some-call_of, list_any-push, due-kept, due-first}
 use Rattle.fs_timeline.proofs.TimelineLemmas.{append_nil, lawful_appended, well_formed_appended}
 use Rattle.fs_linearizable.proofs.LawfulLemmas.{none_there}
-use Rattle.fs_histories.specs.declared.heard.Heard.{Heard}
-use Rattle.fs_histories.specs.declared.heard.Heard.TheVariants as heard
-use Rattle.fs_histories.specs.declared.heard.Pattern.{Pattern}
-use Rattle.fs_histories.specs.declared.heard.Pattern.TheVariants.{Exactly}
-use Rattle.fs_histories.specs.Heard.{IsHeardAs, Matches}
-use Rattle.fs_histories.proofs.HistoryLemmas.{some_from, committed_still, committed_of_other, commits_of_none, played_commit}
-use Rattle.fs_configurations.specs.code.Ways.{GoesBy}
+use Rattle.fs_linearize_histories.specs.declared.heard.Heard.{Heard}
+use Rattle.fs_linearize_histories.specs.declared.heard.Heard.TheVariants as heard
+use Rattle.fs_linearize_histories.specs.declared.heard.Pattern.{Pattern}
+use Rattle.fs_linearize_histories.specs.declared.heard.Pattern.TheVariants.{Exactly}
+use Rattle.fs_linearize_histories.specs.Heard.{IsHeardAs, Matches}
+use Rattle.fs_linearize_histories.proofs.HistoryLemmas.{some_from, committed_still, committed_of_other, commits_of_none, played_commit}
+use Rattle.fs_linearize_configurations.specs.code.Ways.{GoesBy}
 use Rattle.fs_linearize.specs.code.Tellings.{IsPlayed, PlaysOn, IsFilledIn, IsEntryFor, IsDueTo, AreDue, IsKept, PlaysNext, IsTold, TellsOn}
 use Rattle.fs_linearize.specs.declared.telling.Kept.{Kept}
 use Rattle.fs_linearize.specs.declared.telling.Played.{Played}
 use Rattle.fs_linearize.specs.declared.telling.Telling.{Telling}
-use Rattle.fs_configurations.specs.declared.steps.Step.{Step}
-use Rattle.fs_configurations.specs.declared.steps.Step.TheVariants.{Passes, Commits}
+use Rattle.fs_linearize_configurations.specs.declared.steps.Step.{Step}
+use Rattle.fs_linearize_configurations.specs.declared.steps.Step.TheVariants.{Passes, Commits}
 
 -- ---- replies that are due
 

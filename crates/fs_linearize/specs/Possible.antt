@@ -2,11 +2,11 @@
 use Rattle.std.specs.Prelude.{◌≡◌, ◌⊎◌, ℕ, true, false, List, [], ◌∷◌, ◌++◌, length}
 use Rattle.fs_calls.specs.Starts.{Start}
 use Rattle.fs_calls.specs.declared.reply.Reply.{Reply}
-use Rattle.fs_histories.specs.declared.heard.Heard.{Heard}
-use Rattle.fs_histories.specs.declared.heard.Heard.TheVariants.{Return}
-use Rattle.fs_histories.specs.declared.heard.Pattern.TheVariants.{Except}
-use Rattle.fs_histories.specs.Heard.{is_among}
-use Rattle.fs_histories.specs.Histories.{CouldReply}
+use Rattle.fs_linearize_histories.specs.declared.heard.Heard.{Heard}
+use Rattle.fs_linearize_histories.specs.declared.heard.Heard.TheVariants.{Return}
+use Rattle.fs_linearize_histories.specs.declared.heard.Pattern.TheVariants.{Except}
+use Rattle.fs_linearize_histories.specs.Heard.{is_among}
+use Rattle.fs_linearize_histories.specs.Histories.{CouldReply}
 use Rattle.fs_linearize.specs.Limited.{WasLimited}
 use Rattle.fs_linearize.specs.declared.replies.Possible.{Possible}
 use Rattle.fs_linearize.specs.declared.replies.TheConstants.{MOST_REPLIES}

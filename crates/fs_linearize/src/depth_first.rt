@@ -2,22 +2,22 @@
 
 ghost use Rattle.std.specs.Prelude.{◌≡◌, ◌+◌, ℕ, false, Some, Contains, List, drop, slice_get, IfOk, IfSome};
 ghost use Rattle.fs_calls.specs.Starts.{Start};
-ghost use Rattle.fs_histories.specs.declared.heard.Heard.{Heard as Value};
-ghost use Rattle.fs_histories.specs.Histories.{IsHistory};
-ghost use Rattle.fs_configurations.specs.code.Calls.{AreEach};
-ghost use Rattle.fs_configurations.specs.code.Searching.{waits};
+ghost use Rattle.fs_linearize_histories.specs.declared.heard.Heard.{Heard as Value};
+ghost use Rattle.fs_linearize_histories.specs.Histories.{IsHistory};
+ghost use Rattle.fs_linearize_configurations.specs.code.Calls.{AreEach};
+ghost use Rattle.fs_linearize_configurations.specs.code.Searching.{waits};
 ghost use Rattle.fs_linearize.specs.code.DepthFirst.{IsHere, GoesOn, IsChoice, AreChoices, FindsWay, TakesUp, IsOrder};
 ghost use Rattle.fs_linearize.specs.declared.depth_first.Choice.{Choice as Way};
-ghost use Rattle.fs_configurations.specs.declared.steps.Link.{Link as Shared};
+ghost use Rattle.fs_linearize_configurations.specs.declared.steps.Link.{Link as Shared};
 
 use crate::turns::{Turn, Turns};
-use fs_configurations::configuration::Configuration;
-use fs_configurations::reached::Reached;
-use fs_configurations::steps::{Link, Step};
-use fs_configurations::under_way::{self, UnderWay};
-use fs_configurations::ways::steps_to;
-use fs_configurations::{committing, meeting, passing};
-use fs_histories::Heard;
+use fs_linearize_configurations::configuration::Configuration;
+use fs_linearize_configurations::reached::Reached;
+use fs_linearize_configurations::steps::{Link, Step};
+use fs_linearize_configurations::under_way::{self, UnderWay};
+use fs_linearize_configurations::ways::steps_to;
+use fs_linearize_configurations::{committing, meeting, passing};
+use fs_linearize_histories::Heard;
 use fs_seq::SeqTree;
 use std::alloc::{AllocError, Global};
 use std::collections::BTreeMap;

@@ -7,11 +7,11 @@ ghost use Rattle.fs_calls.specs.declared.call.Call.{Call as Value};
 ghost use Rattle.fs_calls.specs.declared.reply.Reply.TheVariants.{Done};
 ghost use Rattle.fs_timeline.specs.declared.entry.Entry.{Entry};
 ghost use Rattle.fs_timeline.specs.declared.entry.Entry.TheVariants.{Begin, Return};
-ghost use Rattle.fs_histories.specs.Heard.{entry_of};
-ghost use Rattle.fs_histories.specs.Faults.{heard_fault, history_fault};
+ghost use Rattle.fs_linearize_histories.specs.Heard.{entry_of};
+ghost use Rattle.fs_linearize_histories.specs.Faults.{heard_fault, history_fault};
 ghost use Rattle.fs_linearize.specs.code.Knowing.{IsKnown, is_left};
 
-use fs_histories::{Heard, HistoryFault};
+use fs_linearize_histories::{Heard, HistoryFault};
 use std::alloc::{AllocError, Global};
 use std::collections::BTreeMap;
 

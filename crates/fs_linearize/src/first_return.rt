@@ -1,12 +1,12 @@
 //! The first return that nothing explains.
 
 ghost use Rattle.std.specs.Prelude.{◌≡◌, ◌+◌, ◌<◌, ◌≤◌, IfOk, IfSome, IfNone};
-ghost use Rattle.fs_histories.specs.Histories.{IsHistory, HasNoFront};
+ghost use Rattle.fs_linearize_histories.specs.Histories.{IsHistory, HasNoFront};
 ghost use Rattle.fs_linearize.specs.code.Searched.{IsPlace};
 
 use crate::progress::Progress;
 use crate::search::{Searched, find_way};
-use fs_histories::Heard;
+use fs_linearize_histories::Heard;
 use fs_names::CallNo;
 use fs_seq::SeqTree;
 use std::alloc::{AllocError, Global};

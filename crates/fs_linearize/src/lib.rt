@@ -7,13 +7,13 @@
 //! First one order is looked for, depth first. At the return of a call that has not committed, that call commits, or else one that meets
 //! it and returns soon. If none can, the search goes back. It makes few choices more than the history has entries.
 //!
-//! If it finds no order, another search goes by layers of configurations (`fs_configurations`): all before an entry, then those after it.
-//! If the returning call has committed in no configuration of a layer, no timeline explains the history. Then the entries up to there, and
-//! further on, are searched by themselves. This finds the first return up to which none explains them, and each reply that its call could
-//! have had.
+//! If it finds no order, another search goes by layers of configurations (`fs_linearize_configurations`): all before an entry, then those
+//! after it. If the returning call has committed in no configuration of a layer, no timeline explains the history. Then the entries up to
+//! there, and further on, are searched by themselves. This finds the first return up to which none explains them, and each reply that its
+//! call could have had.
 //!
-//! `fs_histories` has what a history is, which timelines explain it, when calls meet, and the laws of the search. `specs/Results.antt` has
-//! what an answer says, and `specs/Possible.antt` what could have been replied.
+//! `fs_linearize_histories` has what a history is, which timelines explain it, when calls meet, and the laws of the search.
+//! `specs/Results.antt` has what an answer says, and `specs/Possible.antt` what could have been replied.
 #![tactic(auto)]
 
 mod begins;

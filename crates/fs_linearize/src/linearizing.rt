@@ -1,8 +1,8 @@
 //! Histories made journals, or the first return that nothing explains.
 
 ghost use Rattle.std.specs.Prelude.{◌≡◌, IfOk};
-ghost use Rattle.fs_histories.specs.Faults.{history_fault};
-ghost use Rattle.fs_histories.specs.Histories.{IsHistory, HasNoFront};
+ghost use Rattle.fs_linearize_histories.specs.Faults.{history_fault};
+ghost use Rattle.fs_linearize_histories.specs.Histories.{IsHistory, HasNoFront};
 ghost use Rattle.fs_linearize.specs.Results.{IsAnswerFor, IsKnownAbove, fault_in, TellsLinearizable};
 ghost use Rattle.fs_linearize.specs.code.Searched.{IsRefused};
 
@@ -12,7 +12,7 @@ use crate::progress::Progress;
 use crate::replies::{Possible, possible_replies};
 use crate::search::{Searched, find_way};
 use crate::telling::tell;
-use fs_histories::{Heard, HistoryFault};
+use fs_linearize_histories::{Heard, HistoryFault};
 use fs_names::CallNo;
 use fs_seq::SeqTree;
 use fs_timeline::Entry;

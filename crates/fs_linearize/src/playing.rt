@@ -3,16 +3,16 @@
 ghost use Rattle.std.specs.Prelude.{◌≡◌, true, [], List, Some, option_copied, IfOk, IfSome};
 ghost use Rattle.fs_timeline.specs.Timeline.{begun_as, call_of, has_committed, due};
 ghost use Rattle.fs_timeline.specs.declared.entry.Entry.{Entry};
-ghost use Rattle.fs_histories.specs.Heard.{entry_of, entries};
-ghost use Rattle.fs_histories.specs.Histories.{IsHistory, Explains};
-ghost use Rattle.fs_configurations.specs.code.Ways.{GoesBy};
+ghost use Rattle.fs_linearize_histories.specs.Heard.{entry_of, entries};
+ghost use Rattle.fs_linearize_histories.specs.Histories.{IsHistory, Explains};
+ghost use Rattle.fs_linearize_configurations.specs.code.Ways.{GoesBy};
 ghost use Rattle.fs_linearize.specs.code.Tellings.{PlaysStep};
 
 use crate::begins::Begins;
 use crate::telling::{Played, chosen, play_call};
 use fs_calls::{Call, Reply};
-use fs_configurations::steps::Step;
-use fs_histories::Heard;
+use fs_linearize_configurations::steps::Step;
+use fs_linearize_histories::Heard;
 use fs_seq::SeqTree;
 use std::alloc::{AllocError, Global};
 

@@ -1,10 +1,10 @@
 //! The replies that a call could have had, where it returns one that nothing explains.
 
 ghost use Rattle.std.specs.Prelude.{◌≡◌, ◌++◌, ◌∷◌, [], ℕ, Some, IfOk};
-ghost use Rattle.fs_histories.specs.Histories.{IsHistory};
-ghost use Rattle.fs_histories.specs.declared.heard.Heard.TheVariants as heard;
-ghost use Rattle.fs_histories.specs.declared.heard.Pattern.{Pattern as Known};
-ghost use Rattle.fs_histories.specs.declared.heard.Pattern.TheVariants.{Except};
+ghost use Rattle.fs_linearize_histories.specs.Histories.{IsHistory};
+ghost use Rattle.fs_linearize_histories.specs.declared.heard.Heard.TheVariants as heard;
+ghost use Rattle.fs_linearize_histories.specs.declared.heard.Pattern.{Pattern as Known};
+ghost use Rattle.fs_linearize_histories.specs.declared.heard.Pattern.TheVariants.{Except};
 ghost use Rattle.fs_linearize.specs.Possible.{ArePossible};
 ghost use Rattle.fs_linearize.specs.code.Replies.{IsAnother};
 
@@ -12,7 +12,7 @@ use crate::playing::reply_on;
 use crate::progress::Progress;
 use crate::search::{Searched, find_way};
 use fs_calls::Reply;
-use fs_histories::{Heard, Pattern};
+use fs_linearize_histories::{Heard, Pattern};
 use fs_names::CallNo;
 use fs_seq::SeqTree;
 use std::alloc::{AllocError, Global};

@@ -1,22 +1,22 @@
 //! The search: for one order, and then layer by layer, from the start to the end of a history, up to a limit.
 
 ghost use Rattle.std.specs.Prelude.{◌≡◌, ◌+◌, IfOk};
-ghost use Rattle.fs_histories.specs.Histories.{IsHistory};
-ghost use Rattle.fs_configurations.specs.code.Searching.{IsFirst};
+ghost use Rattle.fs_linearize_histories.specs.Histories.{IsHistory};
+ghost use Rattle.fs_linearize_configurations.specs.code.Searching.{IsFirst};
 ghost use Rattle.fs_linearize.specs.code.Searched.{IsSearched};
 
 use crate::depth_first::one_order;
 use crate::progress::Progress;
-use fs_configurations::configuration::Configuration;
-use fs_configurations::layer::Layer;
-use fs_configurations::passing::pass;
-use fs_configurations::reached::Reached;
-use fs_configurations::steps::{Link, Step};
-use fs_configurations::stopping::unheld;
-use fs_configurations::under_way;
-use fs_configurations::ways::steps_to;
-use fs_configurations::widening::widen;
-use fs_histories::Heard;
+use fs_linearize_configurations::configuration::Configuration;
+use fs_linearize_configurations::layer::Layer;
+use fs_linearize_configurations::passing::pass;
+use fs_linearize_configurations::reached::Reached;
+use fs_linearize_configurations::steps::{Link, Step};
+use fs_linearize_configurations::stopping::unheld;
+use fs_linearize_configurations::under_way;
+use fs_linearize_configurations::ways::steps_to;
+use fs_linearize_configurations::widening::widen;
+use fs_linearize_histories::Heard;
 use fs_names::CallNo;
 use fs_seq::SeqTree;
 use std::alloc::{AllocError, Global};

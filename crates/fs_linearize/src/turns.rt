@@ -3,8 +3,8 @@
 
 ghost use Rattle.std.specs.Prelude.{◌≡◌, ◌⊎◌, Some, Contains, IfSome};
 
-use fs_configurations::under_way::UnderWay;
-use fs_histories::Heard;
+use fs_linearize_configurations::under_way::UnderWay;
+use fs_linearize_histories::Heard;
 use std::alloc::{AllocError, Global};
 use std::collections::BTreeMap;
 

@@ -16,7 +16,7 @@ pub struct HolderWord {
 
 impl Model for HolderWord {
     ghost use Rattle.std.specs.Prelude.{ℕ, Option};
-    ghost use Rattle.fs_places.specs.code.Spots.{spot_of, raw_of, raw_back};
+    ghost use Rattle.fs_nodes_places.specs.code.Spots.{spot_of, raw_of, raw_back};
 
     ghost Value = { Option ℕ };
 

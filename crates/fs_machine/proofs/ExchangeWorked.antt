@@ -8,7 +8,7 @@ use Rattle.fs_calls.specs.declared.call.Call.{Call}
 use Rattle.fs_calls.specs.declared.call.Call.TheVariants.{Exchange}
 use Rattle.fs_calls.specs.declared.errno.Errno.TheVariants.{Enoent, Ebusy, Einval}
 use Rattle.fs_calls.specs.declared.reply.Reply.TheVariants.{Done, Failed}
-use Rattle.fs_graph.specs.Graphs.{Graph, empty_graph, reserved_in, linked_in}
+use Rattle.fs_calls.specs.Graphs.{Graph, empty_graph, reserved_in, linked_in}
 use Rattle.fs_machine.specs.Finishes.{finish}
 use Rattle.fs_machine.specs.Moves.{next}
 use Rattle.fs_machine.specs.declared.moves.Move.TheVariants.{Take as Takes, Finish as Finishes}

@@ -8,7 +8,7 @@ use Rattle.fs_calls.specs.Forms as pairs
 use Rattle.fs_calls.specs.declared.errno.Errno.{Errno}
 use Rattle.fs_calls.specs.declared.reply.Reply.{Reply}
 use Rattle.fs_calls.specs.Rows.{node_row, entry_row, Edit, Keep, Add, Remove}
-use Rattle.fs_graph.specs.Graphs.{Graph, set_at, entry_shape, unlinked_in}
+use Rattle.fs_calls.specs.Graphs.{Graph, set_at, entry_shape, unlinked_in}
 use Rattle.fs_machine.specs.Finishes.{node_effect, entry_effect, move_effect, rename_effect, swap_effect, exchange_effect, effect_at, effect_of, finish}
 use Rattle.fs_machine.specs.Laws.{FreesByLeavingAlone}
 use Rattle.fs_machine.specs.Moves.{target, path_error, dir_error, rename_at, exchange_at}

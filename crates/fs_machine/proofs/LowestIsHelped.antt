@@ -1,6 +1,6 @@
 -- Below a call that was helped stands no walking call.
 use Rattle.std.proofs.Common.{◌≡◌, ℕ, Bool, true, false, cond, eqb, Option, Some, refl, sym, ap, ◌∙◌, subst, arith}
-use Rattle.fs_graph.specs.Graphs.{set_at}
+use Rattle.fs_calls.specs.Graphs.{set_at}
 use Rattle.fs_timeline.specs.Timeline.{commit_count}
 use Rattle.fs_machine.specs.Laws.{HelpsTheLowest}
 use Rattle.fs_machine.specs.Records.{Phase, Walking, Placed, Record, Records}

@@ -9,7 +9,7 @@ use Rattle.fs_calls.specs.declared.errno.Errno.{Errno}
 use Rattle.fs_calls.specs.declared.errno.Errno.TheVariants.{Enoent}
 use Rattle.fs_calls.specs.declared.reply.Reply.{Reply}
 use Rattle.fs_calls.specs.declared.reply.Reply.TheVariants.{Failed}
-use Rattle.fs_graph.specs.Graphs.{Graph, entry_shape, content_in, linked_in, unlinked_in, moved_in, swapped_in}
+use Rattle.fs_calls.specs.Graphs.{Graph, entry_shape, content_in, linked_in, unlinked_in, moved_in, swapped_in}
 use Rattle.fs_machine.specs.Moves.{target, walk_errno, path_error, dir_error, rename_at, exchange_at}
 use Rattle.fs_machine.specs.Records.{Holdings, Record}
 

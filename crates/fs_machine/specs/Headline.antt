@@ -1,6 +1,6 @@
 -- The linearization theorem.
 use Rattle.std.specs.Prelude.{ℕ, ◌≡◌, None}
-use Rattle.fs_graph.specs.Graphs.{graph_shapes}
+use Rattle.fs_calls.specs.Graphs.{graph_shapes}
 use Rattle.fs_calls.specs.Sights.{tree_shapes}
 use Rattle.fs_calls.specs.Outcomes as tree
 use Rattle.fs_timeline.specs.Timeline as journal

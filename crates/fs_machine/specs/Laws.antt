@@ -3,7 +3,7 @@ use Rattle.std.specs.Prelude.{ℕ, ◌≡◌, IsTrue, List, [], ◌∷◌, ◌++
 use Rattle.fs_names.specs.Shapes.{is_there}
 use Rattle.fs_timeline.specs.declared.entry.Entry.{Entry}
 use Rattle.fs_timeline.specs.declared.entry.Entry.TheVariants.{Commit, Return}
-use Rattle.fs_graph.specs.Graphs.{Graph}
+use Rattle.fs_calls.specs.Graphs.{Graph}
 use Rattle.fs_calls.specs.declared.reply.Reply.{Reply}
 use Rattle.fs_machine.specs.declared.moves.Move.TheVariants.{LetGo as Leaves}
 use Rattle.fs_machine.specs.Leaving.{let_go}

@@ -1,6 +1,6 @@
 -- The record after a let go and after a finish, and the graph after a let go and a return.
 use Rattle.std.specs.Prelude.{ℕ, Bool, true, false, eqb, Option, Some, None}
-use Rattle.fs_graph.specs.Graphs.{Graph, released_in}
+use Rattle.fs_calls.specs.Graphs.{Graph, released_in}
 use Rattle.fs_machine.specs.Finishes.{Effect}
 use Rattle.fs_machine.specs.Moves.{left_holdings}
 use Rattle.fs_machine.specs.Records.{Finished, Record}

@@ -12,7 +12,7 @@ use Rattle.fs_calls.specs.Rows.{as_dir, has_room, rename_row, exchange_row}
 use Rattle.fs_calls.specs.declared.errno.Errno.{Errno}
 use Rattle.fs_calls.specs.declared.errno.Errno.TheVariants.{Enoent, Enotdir}
 use Rattle.fs_calls.specs.declared.reply.Reply.{Reply}
-use Rattle.fs_graph.specs.Graphs.{Graph, entry_shape}
+use Rattle.fs_calls.specs.Graphs.{Graph, entry_shape}
 use Rattle.fs_machine.specs.declared.moves.Move.{Move}
 use Rattle.fs_machine.specs.declared.moves.Moved.{Moved}
 use Rattle.fs_machine.specs.declared.moves.Moved.TheVariants.{Nothing, One, Two}

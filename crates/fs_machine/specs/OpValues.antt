@@ -9,7 +9,7 @@ use Rattle.fs_calls.specs.Forms.{form, Form, AtNode, AtEntry, AtPair}
 use Rattle.fs_calls.specs.Forms as pairs
 use Rattle.fs_calls.specs.declared.call.Call.{Call}
 use Rattle.fs_calls.specs.declared.reply.Reply.{Reply}
-use Rattle.fs_graph.specs.Graphs.{Graph, reserved_in, IsReached, IsUnlinked}
+use Rattle.fs_calls.specs.Graphs.{Graph, reserved_in, IsReached, IsUnlinked}
 use Rattle.fs_machine.specs.Finishes.{finish}
 use Rattle.fs_machine.specs.Leaving.{let_go, finished_op}
 use Rattle.fs_machine.specs.Moves.{next, took}

@@ -12,7 +12,7 @@ use Rattle.fs_calls.specs.Sights.{tree_shapes}
 use Rattle.fs_calls.specs.Forms.{form, reserved_by}
 use Rattle.fs_calls.specs.declared.call.Call.{Call}
 use Rattle.fs_calls.specs.declared.reply.Reply.{Reply}
-use Rattle.fs_graph.specs.Graphs.{Graph, at, empty_graph, graph_shapes, IsGraph, IsReached, reserved_in, set_at, used_below}
+use Rattle.fs_calls.specs.Graphs.{Graph, at, empty_graph, graph_shapes, IsGraph, IsReached, reserved_in, set_at, used_below}
 use Rattle.fs_timeline.specs.declared.entry.Entry.{Entry}
 use Rattle.fs_timeline.specs.declared.entry.Entry.TheVariants.{Begin, Commit, Return}
 use Rattle.fs_machine.specs.Finishes.{finish}

@@ -1,7 +1,6 @@
 //! What a begin and a step answer.
 
-use fs_calls::Reply;
-use fs_graph::NodeNo;
+use fs_calls::{NodeNo, Reply};
 use fs_names::CallNo;
 
 /// Why a call could not begin. Nothing has changed by it.

@@ -1,6 +1,6 @@
 //! The machine as a definition, in one place. The only code is the words of its moves and answers.
 //!
-//! Two sides use these words. The laws over all runs (`fs_laws`, `fs_numbers`) are proved about them, and the code (`fs_finish`, `fs_ops`,
+//! Two sides use these words. The laws over all runs (`fs_laws`) are proved about them, and the code (`fs_ops_effects`, `fs_ops`,
 //! `fs_core`) is proved to do what they say. So a change of code checks no law again.
 //!
 //! Read first `src/moves.rt` and `src/answers.rt` (`Move`, `Refusal`, `Stepped`), and then the files in `specs/`, in this order. `Records`

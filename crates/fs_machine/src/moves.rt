@@ -3,7 +3,7 @@
 ghost use Rattle.std.specs.Prelude.{◌↔◌, IsTrue};
 ghost use Rattle.fs_machine.specs.States.{IsMoved};
 
-use fs_graph::NodeNo;
+use fs_calls::NodeNo;
 
 /// What a finish would really move.
 #[derive(Clone, Copy, Debug, PartialEq, Eq)]

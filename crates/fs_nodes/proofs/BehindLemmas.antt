@@ -9,19 +9,19 @@ use Rattle.fs_names.specs.Shapes.{names_of}
 use Rattle.fs_names.proofs.Lemmas.{name_total, same_name_exact}
 use Rattle.std.proofs.lemmas.Cmp.{tied_itself}
 use Rattle.fs_names.specs.declared.limits.TheConstants.{NODE_LIMIT}
-use Rattle.fs_plain.specs.declared.node.Content.{Content}
-use Rattle.fs_places.specs.declared.place.Place.{Place}
-use Rattle.fs_graph.specs.Graphs.{Graph}
-use Rattle.fs_plain.specs.Stores.{link_of, is_in, is_above, names_above}
-use Rattle.fs_places.specs.Plains.{link_with, plain_with, plain, plains}
+use Rattle.fs_nodes_places.specs.declared.node.Content.{Content}
+use Rattle.fs_nodes_places.specs.declared.place.Place.{Place}
+use Rattle.fs_calls.specs.Graphs.{Graph}
+use Rattle.fs_nodes_places.specs.Stores.{link_of, is_in, is_above, names_above}
+use Rattle.fs_nodes_places.specs.Plains.{link_with, plain_with, plain, plains}
 use Rattle.fs_nodes.specs.code.Linked.{graph_of_places, next_child, IsPrev, IsBeside, IsPlaces, IsPassed, IsEntry, IsLesser, is_lesser, names_past, rank}
-use Rattle.fs_places.specs.code.Spots.{number_below, one_of}
-use Rattle.fs_graph.proofs.NameLemmas.{Compared, Below, Same, Above, compare}
-use Rattle.fs_plain.proofs.AscentLemmas.{above_more, above_above, not_itself}
-use Rattle.fs_graph.proofs.EqualLemmas.{eqb_true, both_true}
+use Rattle.fs_nodes_places.specs.code.Spots.{number_below, one_of}
+use Rattle.fs_calls.proofs.NameLemmas.{Compared, Below, Same, Above, compare}
+use Rattle.fs_nodes_places.proofs.AscentLemmas.{above_more, above_above, not_itself}
+use Rattle.fs_calls.proofs.EqualLemmas.{eqb_true, both_true}
 use Rattle.fs_nodes.proofs.OrderLemmas.{found_is_above}
-use Rattle.fs_plain.proofs.EditLemmas.{child_within}
-use Rattle.fs_places.proofs.EditLemmas.{read_place}
+use Rattle.fs_nodes_places.proofs.PlainEditLemmas.{child_within}
+use Rattle.fs_nodes_places.proofs.EditLemmas.{read_place}
 use Rattle.fs_nodes.proofs.StepLemmas.{IsAsked, link_of_place, child_place, entry_parts, dir_has, next_child_name, passed_smaller}
 use Rattle.fs_nodes.proofs.LinkLemmas.{child_name}
 

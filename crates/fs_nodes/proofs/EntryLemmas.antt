@@ -6,15 +6,15 @@ use Rattle.std.proofs.lemmas.List.{length-map}
 use Rattle.fs_names.specs.Names.{Name}
 use Rattle.fs_names.specs.Shapes.{Shape}
 use Rattle.fs_names.specs.declared.limits.TheConstants.{NODE_LIMIT}
-use Rattle.fs_plain.specs.declared.node.Link.{Link}
-use Rattle.fs_plain.specs.declared.node.Node.{Node}
-use Rattle.fs_places.specs.declared.place.Place.{Place}
-use Rattle.fs_graph.specs.Graphs.{then_at, IsParent, IsUnlinked}
-use Rattle.fs_plain.specs.Stores.{content_of, link_of, link_at, names_in, shape_with, with_child}
-use Rattle.fs_places.specs.Plains.{plain, plains}
+use Rattle.fs_nodes_places.specs.declared.node.Link.{Link}
+use Rattle.fs_nodes_places.specs.declared.node.Node.{Node}
+use Rattle.fs_nodes_places.specs.declared.place.Place.{Place}
+use Rattle.fs_calls.specs.Graphs.{then_at, IsParent, IsUnlinked}
+use Rattle.fs_nodes_places.specs.Stores.{content_of, link_of, link_at, names_in, shape_with, with_child}
+use Rattle.fs_nodes_places.specs.Plains.{plain, plains}
 use Rattle.fs_nodes.specs.code.Linked.{graph_of_places, IsBeside, IsNextSibling, IsPlaces}
-use Rattle.fs_plain.proofs.PlaceLemmas.{child_link, read_within}
-use Rattle.fs_plain.proofs.EditLemmas.{parent_is, no_parent}
+use Rattle.fs_nodes_places.proofs.PlaceLemmas.{child_link, read_within}
+use Rattle.fs_nodes_places.proofs.PlainEditLemmas.{parent_is, no_parent}
 use Rattle.fs_nodes.proofs.StepLemmas.{child_place, next_within}
 
 -- one node, one entry

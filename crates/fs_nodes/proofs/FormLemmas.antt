@@ -3,17 +3,17 @@ use Rattle.std.proofs.Common.{◌≡◌, ℕ, zero, suc, ◌+◌, ◌-◌, Bool,
 use Rattle.fs_blocks.specs.Files.{FileValue}
 use Rattle.fs_names.specs.Names.{Name}
 use Rattle.fs_names.specs.declared.kind.Kind.{Kind}
-use Rattle.fs_plain.specs.declared.node.Content.{Content}
-use Rattle.fs_plain.specs.declared.node.Content.TheVariants as contents
-use Rattle.fs_plain.specs.declared.node.Link.{Link}
-use Rattle.fs_plain.specs.Stores.{content_of, content_at}
-use Rattle.fs_plain.specs.code.Edits.{new_content, HasForm}
-use Rattle.fs_plain.specs.code.Edits as plain_edits
-use Rattle.fs_plain.proofs.FormLemmas.{form_new, form_content, form_given}
-use Rattle.fs_plain.proofs.FormLemmas as plain_forms
-use Rattle.fs_places.specs.declared.place.Place.{Place}
-use Rattle.fs_places.specs.Plains.{link_with, plain_with, plains}
-use Rattle.fs_places.specs.code.Edits.{edited, vacated, filled, content_with, with_content}
+use Rattle.fs_nodes_places.specs.declared.node.Content.{Content}
+use Rattle.fs_nodes_places.specs.declared.node.Content.TheVariants as contents
+use Rattle.fs_nodes_places.specs.declared.node.Link.{Link}
+use Rattle.fs_nodes_places.specs.Stores.{content_of, content_at}
+use Rattle.fs_nodes_places.specs.code.PlainEdits.{new_content, HasForm}
+use Rattle.fs_nodes_places.specs.code.PlainEdits as plain_edits
+use Rattle.fs_nodes_places.proofs.FormLemmas.{form_new, form_content, form_given}
+use Rattle.fs_nodes_places.proofs.FormLemmas as plain_forms
+use Rattle.fs_nodes_places.specs.declared.place.Place.{Place}
+use Rattle.fs_nodes_places.specs.Plains.{link_with, plain_with, plains}
+use Rattle.fs_nodes_places.specs.code.Edits.{edited, vacated, filled, content_with, with_content}
 use Rattle.fs_nodes.specs.code.Linked.{with_first, with_next, with_prev, with_entries, entered, led, followed, put_between, taken_out, bared}
 use Rattle.fs_nodes.specs.code.Forms.{HaveForm}
 

@@ -6,24 +6,23 @@ use Rattle.std.proofs.lemmas.List.{length-map}
 use Rattle.fs_names.specs.Names.{Name, has_name}
 use Rattle.fs_names.specs.Shapes.{Shape, is_there, is_dir, names_of}
 use Rattle.fs_names.specs.declared.limits.TheConstants.{NODE_LIMIT}
-use Rattle.fs_plain.specs.declared.node.Content.{Content}
-use Rattle.fs_plain.specs.declared.node.Content.TheVariants as contents
-use Rattle.fs_plain.specs.declared.node.Link.{Link}
-use Rattle.fs_plain.specs.declared.node.Node.{Node}
-use Rattle.fs_places.specs.declared.place.Place.{Place}
-use Rattle.fs_plain.specs.code.Edits.{relinked}
-use Rattle.fs_graph.specs.Graphs.{then_at, linked_in, unlinked_in, IsReached, IsUnlinked}
-use Rattle.fs_plain.specs.Stores.{content_of, link_of, content_at, link_at}
-use Rattle.fs_places.specs.Plains.{link_with, plain_with, plain, plains}
+use Rattle.fs_nodes_places.specs.declared.node.Content.{Content}
+use Rattle.fs_nodes_places.specs.declared.node.Content.TheVariants as contents
+use Rattle.fs_nodes_places.specs.declared.node.Link.{Link}
+use Rattle.fs_nodes_places.specs.declared.node.Node.{Node}
+use Rattle.fs_nodes_places.specs.declared.place.Place.{Place}
+use Rattle.fs_nodes_places.specs.code.PlainEdits.{relinked}
+use Rattle.fs_calls.specs.Graphs.{then_at, linked_in, unlinked_in, IsReached, IsUnlinked}
+use Rattle.fs_nodes_places.specs.Stores.{content_of, link_of, content_at, link_at}
+use Rattle.fs_nodes_places.specs.Plains.{link_with, plain_with, plain, plains}
 use Rattle.fs_nodes.specs.code.Linked.{graph_of_places, IsGap, IsPlaces, put_between, taken_out, led, followed, with_entries, entered}
 use Rattle.fs_nodes.specs.code.Frees.{is_in_list, is_free, next_at, IsChain, IsFreeList, IsLinked}
-use Rattle.fs_graph.proofs.EqualLemmas.{eqb_true}
-use Rattle.fs_plain.proofs.PlaceLemmas.{child_link, read_within}
-use Rattle.fs_plain.proofs.EditLemmas.{place_within, child_within, past_shape}
-use Rattle.fs_places.proofs.EditLemmas.{read_place}
+use Rattle.fs_calls.proofs.EqualLemmas.{eqb_true}
+use Rattle.fs_nodes_places.proofs.PlaceLemmas.{child_link, read_within}
+use Rattle.fs_nodes_places.proofs.PlainEditLemmas.{place_within, child_within, past_shape}
+use Rattle.fs_nodes_places.proofs.EditLemmas.{read_place, length_edited}
 use Rattle.fs_nodes.proofs.StepLemmas.{dir_has, get_some, next_within, dir_length, entry_parts, child_place}
 use Rattle.fs_nodes.proofs.UnlinkLemmas.{take_place, get_taken, plains_taken, take_makes}
-use Rattle.fs_places.proofs.EditLemmas.{length_edited}
 use Rattle.fs_nodes.proofs.LinkLemmas.{is_at, put_place, get_put, plains_put, put_makes, used_content, at_true, child_low, true_false, eqb_false}
 
 -- a list whose places lead where they led

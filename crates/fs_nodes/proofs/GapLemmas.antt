@@ -5,15 +5,15 @@ use Rattle.std.specs.List.{find}
 use Rattle.fs_names.specs.Names.{Name, name_cmp, same_name, inserted_name, has_name}
 use Rattle.fs_names.specs.Shapes.{Dir, names_of}
 use Rattle.fs_names.proofs.Lemmas.{same_name_exact, same_name_refl}
-use Rattle.fs_graph.specs.Graphs.{Graph, then_at, linked_in}
-use Rattle.fs_plain.specs.Stores.{is_above}
-use Rattle.fs_plain.specs.code.Picks.{lesser}
+use Rattle.fs_calls.specs.Graphs.{Graph, then_at, linked_in}
+use Rattle.fs_nodes_places.specs.Stores.{is_above}
+use Rattle.fs_nodes_places.specs.code.Picks.{lesser}
 use Rattle.fs_nodes.specs.code.Linked.{next_child, IsBefore, IsLow, IsAt}
-use Rattle.fs_graph.proofs.NameLemmas.{Compared, Below, Same, Above, compare, length_inserted}
-use Rattle.fs_plain.proofs.PickLemmas.{find_inserted}
-use Rattle.fs_graph.proofs.EqualLemmas.{eqb_refl}
-use Rattle.fs_plain.specs.Seen.{Ascends}
-use Rattle.fs_plain.proofs.AscentLemmas.{above_above, not_itself, below_found}
+use Rattle.fs_calls.proofs.NameLemmas.{Compared, Below, Same, Above, compare, length_inserted}
+use Rattle.fs_nodes_places.proofs.PickLemmas.{find_inserted}
+use Rattle.fs_calls.proofs.EqualLemmas.{eqb_refl}
+use Rattle.fs_nodes_places.specs.Seen.{Ascends}
+use Rattle.fs_nodes_places.proofs.AscentLemmas.{above_above, not_itself, below_found}
 use Rattle.fs_nodes.proofs.OrderLemmas.{found_upto, found_has, found_same}
 
 -- a directory's names are those of its entries, in order, and one name is free

@@ -6,11 +6,11 @@ use Rattle.std.specs.Vec.{with_items}
 use Rattle.std.proofs.lemmas.List.{length-map, with_items_is}
 use Rattle.std.proofs.lemmas.Simd.{map-map}
 use Rattle.fs_names.specs.declared.limits.TheConstants.{NODE_LIMIT}
-use Rattle.fs_plain.specs.declared.node.Node.{Node}
-use Rattle.fs_places.specs.declared.place.Place.{Place}
-use Rattle.fs_graph.specs.Graphs.{then_at}
-use Rattle.fs_plain.specs.Stores.{graph_in, IsStore}
-use Rattle.fs_places.specs.Plains.{plain, plains}
+use Rattle.fs_nodes_places.specs.declared.node.Node.{Node}
+use Rattle.fs_nodes_places.specs.declared.place.Place.{Place}
+use Rattle.fs_calls.specs.Graphs.{then_at}
+use Rattle.fs_nodes_places.specs.Stores.{graph_in, IsStore}
+use Rattle.fs_nodes_places.specs.Plains.{plain, plains}
 use Rattle.fs_nodes.specs.code.Linked.{graph_of_places, IsIndexed, bare, bared}
 use Rattle.fs_nodes.specs.code.Frees.{is_free, IsLinked}
 use Rattle.fs_nodes.proofs.FreeLemmas.{list_kept}

@@ -5,11 +5,11 @@ use Rattle.std.proofs.lemmas.List.{length-replicate, get_or_default, set_at, tak
 use Rattle.std.proofs.lemmas.Bool.{cases_lt}
 use Rattle.std.proofs.lemmas.List.Sums.{sum_by-cons, sum_by-set, sum_by_push, sum_by-le}
 use Rattle.fs_names.specs.declared.limits.TheConstants.{NODE_LIMIT}
-use Rattle.fs_places.specs.declared.key.Key.{Key}
+use Rattle.fs_nodes_places.specs.declared.key.Key.{Key}
 use Rattle.fs_nodes.specs.declared.index.Slot.{Slot}
 use Rattle.fs_nodes.specs.declared.index.TheConstants.{WINDOW}
 use Rattle.fs_nodes.specs.code.Indexes.{free_slot, slot_at, key_at, home_of, key_in, reaching, holding, freeing, slot_weight, key_weight, with_slot, at_home, IsIndexOf, IsIndex, IsTable, IsSome, IsFreeIn, IsHeldIn}
-use Rattle.fs_graph.proofs.EqualLemmas.{eqb_true, eqb_refl}
+use Rattle.fs_calls.proofs.EqualLemmas.{eqb_true, eqb_refl}
 
 -- an element that is read after a write
 read_set : {A : Type 0} (xs : List A) (i j : ℕ) (y d : A) → i < length xs → get_or (set xs i y) j d ≡ cond (eqb j i) y (get_or xs j d)

@@ -7,25 +7,25 @@ use Rattle.fs_blocks.specs.Files.{FileValue}
 use Rattle.fs_names.specs.Names.{Name}
 use Rattle.fs_names.specs.Shapes.{Shape, is_there, is_dir, is_file}
 use Rattle.fs_names.specs.declared.limits.TheConstants.{NODE_LIMIT}
-use Rattle.fs_plain.specs.declared.node.Content.{Content}
-use Rattle.fs_plain.specs.declared.node.Content.TheVariants as contents
-use Rattle.fs_plain.specs.declared.node.Link.{Link}
-use Rattle.fs_plain.specs.declared.node.Node.{Node}
-use Rattle.fs_places.specs.declared.place.Place.{Place}
-use Rattle.fs_places.specs.declared.key.Key.{Key}
+use Rattle.fs_nodes_places.specs.declared.node.Content.{Content}
+use Rattle.fs_nodes_places.specs.declared.node.Content.TheVariants as contents
+use Rattle.fs_nodes_places.specs.declared.node.Link.{Link}
+use Rattle.fs_nodes_places.specs.declared.node.Node.{Node}
+use Rattle.fs_nodes_places.specs.declared.place.Place.{Place}
+use Rattle.fs_nodes_places.specs.declared.key.Key.{Key}
 use Rattle.fs_nodes.specs.declared.index.Slot.{Slot}
-use Rattle.fs_graph.specs.Graphs.{then_at, IsUnlinked}
-use Rattle.fs_plain.specs.Stores.{content_of, link_of, link_at}
-use Rattle.fs_plain.specs.code.Edits.{relinked}
-use Rattle.fs_plain.proofs.EditLemmas.{place_within, child_within}
-use Rattle.fs_plain.proofs.PlaceLemmas.{child_link, read_within}
-use Rattle.fs_places.specs.Plains.{link_with, plain_with, plain, plains}
-use Rattle.fs_places.specs.code.Edits.{edited, vacated, filled, with_content, content_with}
+use Rattle.fs_calls.specs.Graphs.{then_at, IsUnlinked}
+use Rattle.fs_nodes_places.specs.Stores.{content_of, link_of, link_at}
+use Rattle.fs_nodes_places.specs.code.PlainEdits.{relinked}
+use Rattle.fs_nodes_places.proofs.PlainEditLemmas.{place_within, child_within}
+use Rattle.fs_nodes_places.proofs.PlaceLemmas.{child_link, read_within}
+use Rattle.fs_nodes_places.specs.Plains.{link_with, plain_with, plain, plains}
+use Rattle.fs_nodes_places.specs.code.Edits.{edited, vacated, filled, with_content, content_with}
 use Rattle.fs_nodes.specs.code.Linked.{graph_of_places, IsPlaces, IsEntry, put_between, taken_out}
-use Rattle.fs_places.specs.code.Keys.{key_of, key_of_link, keys_of}
+use Rattle.fs_nodes_places.specs.code.Keys.{key_of, key_of_link, keys_of}
 use Rattle.fs_nodes.specs.code.Indexes.{key_at, IsIndex, IsSome, HasEntry}
 use Rattle.fs_nodes.proofs.StepLemmas.{link_of_place, get_some}
-use Rattle.fs_places.proofs.EditLemmas.{plains_set}
+use Rattle.fs_nodes_places.proofs.EditLemmas.{plains_set}
 use Rattle.fs_nodes.proofs.LinkLemmas.{plains_put, used_content}
 use Rattle.fs_nodes.proofs.FreeLemmas.{used_place}
 use Rattle.fs_nodes.proofs.IndexLemmas.{grown}

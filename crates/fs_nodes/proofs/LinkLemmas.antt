@@ -6,20 +6,20 @@ use Rattle.std.proofs.lemmas.Option.{slice_get-map}
 use Rattle.fs_names.specs.Names.{Name, same_name, inserted_name}
 use Rattle.fs_names.specs.Shapes.{Dir, names_of, is_there, is_dir}
 use Rattle.fs_names.specs.declared.limits.TheConstants.{NODE_LIMIT}
-use Rattle.fs_plain.specs.declared.node.Content.{Content}
-use Rattle.fs_plain.specs.declared.node.Link.{Link}
-use Rattle.fs_plain.specs.declared.node.Node.{Node}
-use Rattle.fs_places.specs.declared.place.Place.{Place}
-use Rattle.fs_graph.specs.Graphs.{Graph, then_at, linked_in, IsReached, IsUnlinked}
-use Rattle.fs_plain.specs.Stores.{content_of, link_of, link_at, child_in, names_in, shape_with, graph_in, is_above, IsStore}
-use Rattle.fs_plain.specs.code.Edits.{relinked}
-use Rattle.fs_plain.proofs.EditLemmas.{Makes, link_makes}
-use Rattle.fs_places.specs.Plains.{link_with, plain_with, plain, plains}
-use Rattle.fs_places.specs.code.Edits.{edited}
+use Rattle.fs_nodes_places.specs.declared.node.Content.{Content}
+use Rattle.fs_nodes_places.specs.declared.node.Link.{Link}
+use Rattle.fs_nodes_places.specs.declared.node.Node.{Node}
+use Rattle.fs_nodes_places.specs.declared.place.Place.{Place}
+use Rattle.fs_calls.specs.Graphs.{Graph, then_at, linked_in, IsReached, IsUnlinked}
+use Rattle.fs_nodes_places.specs.Stores.{content_of, link_of, link_at, child_in, names_in, shape_with, graph_in, is_above, IsStore}
+use Rattle.fs_nodes_places.specs.code.PlainEdits.{relinked}
+use Rattle.fs_nodes_places.proofs.PlainEditLemmas.{Makes, link_makes}
+use Rattle.fs_nodes_places.specs.Plains.{link_with, plain_with, plain, plains}
+use Rattle.fs_nodes_places.specs.code.Edits.{edited}
 use Rattle.fs_nodes.specs.code.Linked.{graph_of_places, next_child, IsPrev, IsLow, IsAt, IsGap, IsBeside, IsIndexed, IsPlaces, with_first, with_next, with_prev, with_entries, entered, led, followed, put_between}
-use Rattle.fs_graph.proofs.EqualLemmas.{eqb_true, eqb_refl}
-use Rattle.fs_plain.proofs.PlaceLemmas.{child_link}
-use Rattle.fs_places.proofs.EditLemmas.{get_edited, plains_edited, plains_set}
+use Rattle.fs_calls.proofs.EqualLemmas.{eqb_true, eqb_refl}
+use Rattle.fs_nodes_places.proofs.PlaceLemmas.{child_link}
+use Rattle.fs_nodes_places.proofs.EditLemmas.{get_edited, plains_edited, plains_set}
 use Rattle.fs_nodes.proofs.StepLemmas.{dir_ascends, dir_has, link_of_place, next_child_name}
 use Rattle.fs_nodes.proofs.GapLemmas.{IsFree, IsMember, count_linked, child_new, child_there, next_other, next_at, next_by, next_self, at_one, low_member}
 

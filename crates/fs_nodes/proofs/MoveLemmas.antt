@@ -4,13 +4,13 @@ use Rattle.std.specs.Prelude.{IsTrue}
 use Rattle.fs_names.specs.Names.{Name, same_name, removed_name}
 use Rattle.fs_names.specs.Shapes.{Shape, Dir, names_of, is_there, is_dir}
 use Rattle.fs_names.proofs.Lemmas.{same_name_refl}
-use Rattle.fs_places.specs.declared.place.Place.{Place}
-use Rattle.fs_graph.specs.Graphs.{linked_in, unlinked_in, moved_in, IsReached}
-use Rattle.fs_plain.specs.Seen.{Seen}
+use Rattle.fs_nodes_places.specs.declared.place.Place.{Place}
+use Rattle.fs_calls.specs.Graphs.{linked_in, unlinked_in, moved_in, IsReached}
+use Rattle.fs_nodes_places.specs.Seen.{Seen}
 use Rattle.fs_nodes.specs.code.Linked.{graph_of_places, IsPlaces}
-use Rattle.fs_graph.proofs.CycleLemmas.{reached_less}
-use Rattle.fs_graph.proofs.EqualLemmas.{eqb_refl}
-use Rattle.fs_plain.proofs.ExchangeLemmas.{IsBetween}
+use Rattle.fs_calls.proofs.CycleLemmas.{reached_less}
+use Rattle.fs_calls.proofs.EqualLemmas.{eqb_refl}
+use Rattle.fs_nodes_places.proofs.ExchangeLemmas.{IsBetween}
 use Rattle.fs_nodes.proofs.EntryLemmas.{one_name, root_unlinked, child_used}
 
 -- so it is among the places of a store

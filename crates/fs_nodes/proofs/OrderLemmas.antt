@@ -4,12 +4,12 @@ use Rattle.std.specs.Ordering.{is_lt}
 use Rattle.std.specs.List.{find}
 use Rattle.fs_names.specs.Names.{Name, name_cmp, same_name, has_name, inserted_name}
 use Rattle.fs_names.proofs.Lemmas.{same_name_exact, same_name_refl}
-use Rattle.fs_plain.specs.declared.node.Link.{Link}
-use Rattle.fs_plain.specs.declared.node.Node.{Node}
-use Rattle.fs_plain.specs.Stores.{link_of, with_link, names_in, is_above, names_above}
+use Rattle.fs_nodes_places.specs.declared.node.Link.{Link}
+use Rattle.fs_nodes_places.specs.declared.node.Node.{Node}
+use Rattle.fs_nodes_places.specs.Stores.{link_of, with_link, names_in, is_above, names_above}
 use Rattle.fs_nodes.specs.code.Linked.{IsBefore}
-use Rattle.fs_plain.specs.Seen.{Ascends}
-use Rattle.fs_plain.proofs.AscentLemmas.{above_above}
+use Rattle.fs_nodes_places.specs.Seen.{Ascends}
+use Rattle.fs_nodes_places.proofs.AscentLemmas.{above_above}
 
 -- all names are above none
 pub all_names : (names : List Name) → names_above None names ≡ names

@@ -9,21 +9,21 @@ use Rattle.fs_names.specs.Shapes.{Shape, is_there, has_any, has_entries, names_o
 use Rattle.fs_names.specs.declared.kind.Kind.{Kind}
 use Rattle.fs_names.specs.declared.kind.Kind.TheVariants as kinds
 use Rattle.fs_names.specs.declared.limits.TheConstants.{NODE_LIMIT}
-use Rattle.fs_plain.specs.declared.node.Content.{Content}
-use Rattle.fs_plain.specs.declared.node.Link.{Link}
-use Rattle.fs_plain.specs.declared.node.Node.{Node}
-use Rattle.fs_places.specs.declared.place.Place.{Place}
-use Rattle.fs_plain.specs.code.Edits.{new_content, new_node, IsTaken}
-use Rattle.fs_graph.specs.Graphs.{Graph, Children, then_at, set_at, released_in, reserved_in, used_below, IsUnlinked}
-use Rattle.fs_plain.specs.Stores.{content_of, link_of, names_in, shape_with, graph_in, is_above, new_shape, IsStore}
-use Rattle.fs_places.specs.Plains.{link_with, plain_with, plain, plains}
-use Rattle.fs_places.specs.code.Edits.{edited, vacated, filled}
+use Rattle.fs_nodes_places.specs.declared.node.Content.{Content}
+use Rattle.fs_nodes_places.specs.declared.node.Link.{Link}
+use Rattle.fs_nodes_places.specs.declared.node.Node.{Node}
+use Rattle.fs_nodes_places.specs.declared.place.Place.{Place}
+use Rattle.fs_nodes_places.specs.code.PlainEdits.{new_content, new_node, IsTaken}
+use Rattle.fs_calls.specs.Graphs.{Graph, Children, then_at, set_at, released_in, reserved_in, used_below, IsUnlinked}
+use Rattle.fs_nodes_places.specs.Stores.{content_of, link_of, names_in, shape_with, graph_in, is_above, new_shape, IsStore}
+use Rattle.fs_nodes_places.specs.Plains.{link_with, plain_with, plain, plains}
+use Rattle.fs_nodes_places.specs.code.Edits.{edited, vacated, filled}
 use Rattle.fs_nodes.specs.code.Linked.{graph_of_places, next_child, IsPrev, IsBeside, IsIndexed, IsPlaces}
 use Rattle.fs_nodes.specs.code.Frees.{is_in_list, IsApart, is_free, next_at, IsChain, IsFreeList, IsLinked}
-use Rattle.fs_graph.proofs.EqualLemmas.{eqb_true, eqb_refl}
-use Rattle.fs_plain.proofs.EditLemmas.{Makes, release_makes, reserve_makes, push_makes, past_shape}
-use Rattle.fs_plain.proofs.StoreLemmas.{used_places, free_place, root_taken}
-use Rattle.fs_places.proofs.EditLemmas.{get_edited, length_edited, plains_set}
+use Rattle.fs_calls.proofs.EqualLemmas.{eqb_true, eqb_refl}
+use Rattle.fs_nodes_places.proofs.PlainEditLemmas.{Makes, release_makes, reserve_makes, push_makes, past_shape}
+use Rattle.fs_nodes_places.proofs.StoreLemmas.{used_places, free_place, root_taken}
+use Rattle.fs_nodes_places.proofs.EditLemmas.{get_edited, length_edited, plains_set}
 use Rattle.fs_nodes.proofs.LinkLemmas.{true_false, eqb_false, used_content}
 use Rattle.fs_nodes.proofs.FreeLemmas.{chain_kept, used_not_free, used_place}
 

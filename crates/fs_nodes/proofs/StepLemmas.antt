@@ -11,20 +11,20 @@ use Rattle.std.proofs.lemmas.List.{length-map}
 use Rattle.fs_names.specs.Names.{Name, name_cmp, has_name}
 use Rattle.fs_names.specs.Shapes.{Shape, names_of}
 use Rattle.fs_names.specs.declared.limits.TheConstants.{NODE_LIMIT}
-use Rattle.fs_plain.specs.declared.node.Content.{Content}
-use Rattle.fs_plain.specs.declared.node.Link.{Link}
-use Rattle.fs_plain.specs.declared.node.Node.{Node}
-use Rattle.fs_places.specs.declared.place.Place.{Place}
-use Rattle.fs_graph.specs.Graphs.{Graph, then_at}
-use Rattle.fs_plain.specs.Stores.{link_of, link_at, child_in, names_in, shape_in, is_above, names_above, next_entry, with_child, IsNextName}
-use Rattle.fs_places.specs.Plains.{link_with, plain_with, plain, plains}
+use Rattle.fs_nodes_places.specs.declared.node.Content.{Content}
+use Rattle.fs_nodes_places.specs.declared.node.Link.{Link}
+use Rattle.fs_nodes_places.specs.declared.node.Node.{Node}
+use Rattle.fs_nodes_places.specs.declared.place.Place.{Place}
+use Rattle.fs_calls.specs.Graphs.{Graph, then_at}
+use Rattle.fs_nodes_places.specs.Stores.{link_of, link_at, child_in, names_in, shape_in, is_above, names_above, next_entry, with_child, IsNextName}
+use Rattle.fs_nodes_places.specs.Plains.{link_with, plain_with, plain, plains}
 use Rattle.fs_nodes.specs.code.Linked.{graph_of_places, next_child, IsBefore, IsGap, IsBeside, IsPlaces, IsPassed, names_past, rank}
-use Rattle.fs_graph.proofs.NameLemmas.{Compared, Below, Same, Above, compare}
-use Rattle.fs_plain.proofs.PlaceLemmas.{child_link, names_child}
-use Rattle.fs_plain.proofs.EditLemmas.{names_shape, child_within, past_shape}
-use Rattle.fs_plain.specs.Seen.{Ascends}
-use Rattle.fs_plain.proofs.AscentLemmas.{names_ascend, next_names, no_names_above}
-use Rattle.fs_places.proofs.EditLemmas.{read_place}
+use Rattle.fs_calls.proofs.NameLemmas.{Compared, Below, Same, Above, compare}
+use Rattle.fs_nodes_places.proofs.PlaceLemmas.{child_link, names_child}
+use Rattle.fs_nodes_places.proofs.PlainEditLemmas.{names_shape, child_within, past_shape}
+use Rattle.fs_nodes_places.specs.Seen.{Ascends}
+use Rattle.fs_nodes_places.proofs.AscentLemmas.{names_ascend, next_names, no_names_above}
+use Rattle.fs_nodes_places.proofs.EditLemmas.{read_place}
 use Rattle.fs_nodes.proofs.OrderLemmas.{all_names, found_upto, found_has, names_length}
 
 -- the names of a directory ascend

@@ -5,22 +5,22 @@ use Rattle.std.proofs.lemmas.Option.{slice_get-map}
 use Rattle.fs_blocks.specs.Files.{FileValue}
 use Rattle.fs_names.specs.Shapes.{Shape, Dir, File, is_there, is_file, names_of, bytes_of}
 use Rattle.fs_names.specs.declared.limits.TheConstants.{NODE_LIMIT}
-use Rattle.fs_plain.specs.declared.node.Content.{Content}
-use Rattle.fs_plain.specs.declared.node.Link.{Link}
-use Rattle.fs_plain.specs.declared.node.Node.{Node}
-use Rattle.fs_places.specs.declared.place.Place.{Place}
-use Rattle.fs_plain.specs.code.Edits.{with_file, handed_out}
-use Rattle.fs_graph.specs.Graphs.{Graph, then_at, content_in}
-use Rattle.fs_plain.specs.Stores.{link_of, graph_in, IsStore}
-use Rattle.fs_places.specs.Plains.{link_with, plain_with, plain, plains}
-use Rattle.fs_places.specs.code.Edits.{edited, content_with, content_old, with_content}
+use Rattle.fs_nodes_places.specs.declared.node.Content.{Content}
+use Rattle.fs_nodes_places.specs.declared.node.Link.{Link}
+use Rattle.fs_nodes_places.specs.declared.node.Node.{Node}
+use Rattle.fs_nodes_places.specs.declared.place.Place.{Place}
+use Rattle.fs_nodes_places.specs.code.PlainEdits.{with_file, handed_out}
+use Rattle.fs_calls.specs.Graphs.{Graph, then_at, content_in}
+use Rattle.fs_nodes_places.specs.Stores.{link_of, graph_in, IsStore}
+use Rattle.fs_nodes_places.specs.Plains.{link_with, plain_with, plain, plains}
+use Rattle.fs_nodes_places.specs.code.Edits.{edited, content_with, content_old, with_content}
 use Rattle.fs_nodes.specs.code.Linked.{graph_of_places, IsBeside, IsIndexed}
 use Rattle.fs_nodes.specs.code.Frees.{is_free, next_at, IsLinked}
-use Rattle.fs_graph.proofs.EqualLemmas.{eqb_true}
-use Rattle.fs_plain.proofs.EditLemmas.{Makes, swap_makes, swap_hands}
-use Rattle.fs_places.proofs.EditLemmas.{length_edited, plains_set}
+use Rattle.fs_calls.proofs.EqualLemmas.{eqb_true}
+use Rattle.fs_nodes_places.proofs.PlainEditLemmas.{Makes, swap_makes, swap_hands}
+use Rattle.fs_nodes_places.proofs.EditLemmas.{length_edited, plains_set}
 use Rattle.fs_nodes.specs.code.Forms.{HaveForm}
-use Rattle.fs_plain.proofs.FormLemmas.{form_at, form_handed}
+use Rattle.fs_nodes_places.proofs.FormLemmas.{form_at, form_handed}
 use Rattle.fs_nodes.proofs.FormLemmas.{form_plains}
 use Rattle.fs_nodes.proofs.FreeLemmas.{list_kept, free_set, used_place}
 use Rattle.fs_nodes.proofs.ReserveLemmas.{names_at, indexed_same, edited_read, next_edited}

@@ -7,25 +7,25 @@ use Rattle.fs_names.specs.Names.{Name, same_name, has_name, inserted_name}
 use Rattle.fs_names.specs.Shapes.{Dir, names_of}
 use Rattle.fs_names.specs.declared.limits.TheConstants.{NODE_LIMIT}
 use Rattle.fs_names.proofs.Lemmas.{same_name_exact, same_name_refl}
-use Rattle.fs_plain.specs.declared.node.Content.{Content}
-use Rattle.fs_plain.specs.declared.node.Link.{Link}
-use Rattle.fs_plain.specs.declared.node.Node.{Node}
-use Rattle.fs_places.specs.declared.place.Place.{Place}
-use Rattle.fs_graph.specs.Graphs.{Graph, linked_in, unlinked_in}
-use Rattle.fs_plain.specs.Stores.{link_of, link_at, graph_in, is_above, IsStore}
-use Rattle.fs_plain.specs.code.Edits.{relinked}
-use Rattle.fs_plain.proofs.EditLemmas.{Makes, unlink_makes, names_shape, found_link, link_content, relinked_content, at_of}
-use Rattle.fs_plain.proofs.GraphLemmas.{unlinked_back}
-use Rattle.fs_places.specs.Plains.{link_with, plain_with, plain, plains}
-use Rattle.fs_places.specs.code.Edits.{edited}
+use Rattle.fs_nodes_places.specs.declared.node.Content.{Content}
+use Rattle.fs_nodes_places.specs.declared.node.Link.{Link}
+use Rattle.fs_nodes_places.specs.declared.node.Node.{Node}
+use Rattle.fs_nodes_places.specs.declared.place.Place.{Place}
+use Rattle.fs_calls.specs.Graphs.{Graph, linked_in, unlinked_in}
+use Rattle.fs_nodes_places.specs.Stores.{link_of, link_at, graph_in, is_above, IsStore}
+use Rattle.fs_nodes_places.specs.code.PlainEdits.{relinked}
+use Rattle.fs_nodes_places.proofs.PlainEditLemmas.{Makes, unlink_makes, names_shape, found_link, link_content, relinked_content, at_of}
+use Rattle.fs_nodes_places.proofs.GraphLemmas.{unlinked_back}
+use Rattle.fs_nodes_places.specs.Plains.{link_with, plain_with, plain, plains}
+use Rattle.fs_nodes_places.specs.code.Edits.{edited}
 use Rattle.fs_nodes.specs.code.Linked.{graph_of_places, next_child, IsPrev, IsLow, IsAt, IsGap, IsBeside, IsIndexed, IsPlaces, with_entries, entered, led, followed, taken_out}
-use Rattle.fs_graph.proofs.EqualLemmas.{eqb_true, eqb_refl}
-use Rattle.fs_plain.proofs.PlaceLemmas.{child_link, names_child}
+use Rattle.fs_calls.proofs.EqualLemmas.{eqb_true, eqb_refl}
+use Rattle.fs_nodes_places.proofs.PlaceLemmas.{child_link, names_child}
 use Rattle.fs_nodes.proofs.StepLemmas.{link_of_place, next_child_name}
 use Rattle.fs_nodes.proofs.GapLemmas.{IsFree, IsMember, count_linked, child_new, child_old, child_there, next_other, next_at, next_by, next_self, at_one, low_member}
-use Rattle.fs_plain.specs.Seen.{Ascends}
-use Rattle.fs_plain.proofs.AscentLemmas.{names_ascend, not_itself}
-use Rattle.fs_places.proofs.EditLemmas.{get_edited, plains_edited, plains_set}
+use Rattle.fs_nodes_places.specs.Seen.{Ascends}
+use Rattle.fs_nodes_places.proofs.AscentLemmas.{names_ascend, not_itself}
+use Rattle.fs_nodes_places.proofs.EditLemmas.{get_edited, plains_edited, plains_set}
 use Rattle.fs_nodes.proofs.LinkLemmas.{is_at, get_led, get_followed, plains_led, plains_followed, same_plain, plain_relinked, one_entry, child_name, low_child, child_low, at_true, at_refl, true_false, eqb_false}
 
 -- each place, where a node left its place between two siblings

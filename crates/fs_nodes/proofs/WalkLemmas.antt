@@ -7,17 +7,17 @@ use Rattle.std.proofs.lemmas.List.Sums.{length-filter, count_by-le-length}
 use Rattle.fs_names.specs.Names.{Name, name_cmp}
 use Rattle.fs_names.specs.Shapes.{names_of}
 use Rattle.fs_names.specs.declared.limits.TheConstants.{NODE_LIMIT}
-use Rattle.fs_places.specs.declared.place.Place.{Place}
-use Rattle.fs_plain.specs.Stores.{link_of, is_above, names_above}
-use Rattle.fs_places.specs.Plains.{plain, plains}
+use Rattle.fs_nodes_places.specs.declared.place.Place.{Place}
+use Rattle.fs_nodes_places.specs.Stores.{link_of, is_above, names_above}
+use Rattle.fs_nodes_places.specs.Plains.{plain, plains}
 use Rattle.fs_nodes.specs.code.Linked.{graph_of_places, next_child, IsPlaces, IsPassed, IsEntry, IsLesser, IsGreater, names_past, rank}
-use Rattle.fs_places.specs.code.Spots.{is_number, one_of}
-use Rattle.fs_graph.proofs.EqualLemmas.{eqb_true, eqb_refl}
-use Rattle.fs_graph.proofs.NameLemmas.{Compared, Below, Same, Above, compare}
-use Rattle.fs_plain.proofs.AscentLemmas.{above_above, next_names, no_names_above, not_itself}
-use Rattle.fs_plain.proofs.EditLemmas.{child_within}
+use Rattle.fs_nodes_places.specs.code.Spots.{is_number, one_of}
+use Rattle.fs_calls.proofs.EqualLemmas.{eqb_true, eqb_refl}
+use Rattle.fs_calls.proofs.NameLemmas.{Compared, Below, Same, Above, compare}
+use Rattle.fs_nodes_places.proofs.AscentLemmas.{above_above, next_names, no_names_above, not_itself}
+use Rattle.fs_nodes_places.proofs.PlainEditLemmas.{child_within}
 use Rattle.std.proofs.lemmas.List.{length-map}
-use Rattle.fs_places.proofs.EditLemmas.{read_place}
+use Rattle.fs_nodes_places.proofs.EditLemmas.{read_place}
 use Rattle.fs_nodes.proofs.StepLemmas.{IsMet, dir_ascends, entry_none, child_place, entry_parts, get_some, met, next_within, passed_first, passed_here, passed_more, passed_smaller, sought_found, sought_past, sought_end}
 use Rattle.fs_nodes.proofs.OrderLemmas.{all_names}
 use Rattle.fs_nodes.proofs.BehindLemmas.{entry_passed, single_passed, single_nearer, leap_nearer, not_greater, lesser_within}

@@ -1,2 +1,2 @@
 -- What is seen of a store, handed on.
-pub use Rattle.fs_plain.specs.Seen.{Seen, seen, Ascends, IsReal}
+pub use Rattle.fs_nodes_places.specs.Seen.{Seen, seen, Ascends, IsReal}

@@ -10,14 +10,14 @@
 
 ghost use Rattle.std.specs.Prelude.{◌≡◌, ◌≢◌, ℕ, ◌+◌, ◌-◌, ◌*◌, ◌<◌, ◌≤◌, [], ◌∷◌, List, Option, Some, None, IfOk, OnOk, OnErr, IfSome, MatchOption, length, slice_set};
 ghost use Rattle.fs_names.specs.declared.limits.TheConstants.{NODE_LIMIT};
-ghost use Rattle.fs_places.specs.Plains.{plains};
-ghost use Rattle.fs_places.specs.code.Keys.{keys_of};
+ghost use Rattle.fs_nodes_places.specs.Plains.{plains};
+ghost use Rattle.fs_nodes_places.specs.code.Keys.{keys_of};
 ghost use Rattle.fs_nodes.specs.code.Linked.{IsPlaces};
 ghost use Rattle.fs_nodes.specs.code.Indexes.{free_slot, slot_at, key_at, home_of, reaching, holding, freeing, IsTable, IsIndex, IsSome, HasEntry, IsFreeIn, IsHeldIn, IsFound};
 
 use fs_memory::Memory;
-use fs_places::place::key_of_place;
-use fs_places::{Key, Place, Spot};
+use fs_nodes_places::place::key_of_place;
+use fs_nodes_places::{Key, Place, Spot};
 use std::alloc::{AllocError, Global};
 
 /// In how many slots from its home on an entry may be.

@@ -1,3 +1,3 @@
 //! The same store as a plain vector, without an index: what tests compare `Store` with.
 
-pub use fs_plain::Store;
+pub use fs_nodes_places::Store;

@@ -3,24 +3,23 @@
 ghost use Rattle.std.specs.Prelude.{◌≡◌, ◌≤◌, ◌<◌, ◌+◌, ◌-◌, length, Some, None, IfSome, slice_get, option_map};
 ghost use Rattle.std.specs.Option.{option_copied};
 ghost use Rattle.fs_names.specs.Shapes.{names_of};
-ghost use Rattle.fs_plain.specs.Stores.{link_of, is_in, next_entry, IsNextName, IsEntryAfter, IsNameAfter, lent};
-ghost use Rattle.fs_places.specs.Plains.{plain, plains};
-ghost use Rattle.fs_graph.specs.Graphs.{IsUnlinked};
+ghost use Rattle.fs_nodes_places.specs.Stores.{link_of, is_in, next_entry, IsNextName, IsEntryAfter, IsNameAfter, lent};
+ghost use Rattle.fs_nodes_places.specs.Plains.{plain, plains};
+ghost use Rattle.fs_calls.specs.Graphs.{IsUnlinked};
 ghost use Rattle.fs_names.specs.Heads.{IsHead};
-ghost use Rattle.fs_places.specs.code.Keys.{key_of, keys_of};
+ghost use Rattle.fs_nodes_places.specs.code.Keys.{key_of, keys_of};
 ghost use Rattle.fs_nodes.specs.code.Indexes.{IsIndex};
-ghost use Rattle.fs_places.specs.code.Spots.{is_number, one_of};
-ghost use Rattle.fs_places.specs.declared.hints.TheConstants.{MOST};
-ghost use Rattle.fs_places.specs.code.Edits.{edited};
+ghost use Rattle.fs_nodes_places.specs.code.Spots.{is_number, one_of};
+ghost use Rattle.fs_nodes_places.specs.declared.hints.TheConstants.{MOST};
+ghost use Rattle.fs_nodes_places.specs.code.Edits.{edited};
 ghost use Rattle.fs_nodes.specs.code.Linked.{graph_of_places, next_child, IsPlaces, IsGap, IsNextSibling, IsEntry, IsLesser, IsGreater, is_lesser, IsPassed, with_entries, entered, led, followed, put_between, taken_out};
 
 use crate::index::{Found, Slot, seek};
 use fs_names::{NODE_LIMIT, Name};
-use fs_places::hints::{MOST, greatest_below};
-use fs_places::label::is_short;
-use fs_places::place::dir_of;
-use fs_places::{Key, Label, Place, Spot};
-use fs_plain::is_higher;
+use fs_nodes_places::hints::{MOST, greatest_below};
+use fs_nodes_places::label::is_short;
+use fs_nodes_places::place::dir_of;
+use fs_nodes_places::{Key, Label, Place, Spot, is_higher};
 use std::cmp::Ordering;
 use std::mem;
 

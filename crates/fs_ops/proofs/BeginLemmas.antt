@@ -7,7 +7,7 @@ use Rattle.fs_names.specs.declared.limits.Limits.{Limits}
 use Rattle.fs_names.specs.declared.kind.Kind.TheVariants as kinds
 use Rattle.fs_nodes.specs.Graphs.{Graph, reserved_in, released_in}
 use Rattle.fs_nodes.specs.Stores.{new_shape, IsUnlinked}
-use Rattle.fs_graph.proofs.EqualLemmas.{graph_by, eqb_true, eqb_refl}
+use Rattle.fs_calls.proofs.EqualLemmas.{graph_by, eqb_true, eqb_refl}
 use Rattle.fs_calls.specs.declared.call.Call.{Call}
 use Rattle.fs_ops.specs.code.Reservations.{Reserves}
 use Rattle.fs_machine.specs.Leaving.{unreserved}

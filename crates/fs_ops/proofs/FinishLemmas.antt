@@ -18,13 +18,13 @@ use Rattle.fs_calls.specs.declared.errno.Errno.{Errno}
 use Rattle.fs_calls.specs.declared.errno.Errno.TheVariants.{Enoent, Eexist, Enospc}
 use Rattle.fs_calls.specs.declared.reply.Reply.TheVariants.{Failed, Done}
 use Rattle.fs_walk.specs.Ways.{Way, ForkWay}
-use Rattle.fs_finish.specs.declared.finish.Finish.{Finish}
-use Rattle.fs_finish.specs.declared.plan.Route.{Route}
-use Rattle.fs_finish.specs.declared.plan.Plan.{Plan}
-use Rattle.fs_finish.specs.declared.plan.Plan.TheVariants.{Fails, Stays, Answers, Adds, Removes, Moves, Replaces, Swaps}
-use Rattle.fs_finish.specs.Endings.{IsEffect}
-use Rattle.fs_finish.specs.Paths.{last_name, new_name}
-use Rattle.fs_finish.specs.Plans.{node_plan, entry_plan, pair_plan, moving, moves, swapping, along, between, carried, added, removed, moved, swapped, Changes, CanCarryOut, CanMove, CanSwap}
+use Rattle.fs_ops_effects.specs.declared.finish.Finish.{Finish}
+use Rattle.fs_ops_effects.specs.declared.plan.Route.{Route}
+use Rattle.fs_ops_effects.specs.declared.plan.Plan.{Plan}
+use Rattle.fs_ops_effects.specs.declared.plan.Plan.TheVariants.{Fails, Stays, Answers, Adds, Removes, Moves, Replaces, Swaps}
+use Rattle.fs_ops_effects.specs.Endings.{IsEffect}
+use Rattle.fs_ops_effects.specs.Paths.{last_name, new_name}
+use Rattle.fs_ops_effects.specs.Plans.{node_plan, entry_plan, pair_plan, moving, moves, swapping, along, between, carried, added, removed, moved, swapped, Changes, CanCarryOut, CanMove, CanSwap}
 use Rattle.fs_machine.specs.Finishes.{Effect, no_effect, entry_effect, move_effect, swap_effect, effect_at, effect_of, finish}
 use Rattle.fs_machine.specs.Moves.{target, path_error, dir_error, there_by}
 use Rattle.fs_machine.specs.Records.{Holdings, Record, Finished, taken_if}

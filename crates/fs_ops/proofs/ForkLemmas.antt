@@ -11,8 +11,8 @@ use Rattle.fs_nodes.specs.Graphs.{Graph, entry_shape}
 use Rattle.fs_calls.specs.Rows.{answered, rename_fault, exchange_fault, rename_row, exchange_row}
 use Rattle.fs_calls.specs.declared.errno.Errno.{Errno}
 use Rattle.fs_calls.specs.declared.reply.Reply.TheVariants.{Done}
-use Rattle.fs_finish.specs.Plans.{pair_plan, moving, swapping, moved_by}
-use Rattle.fs_finish.specs.declared.plan.Plan.{Plan}
+use Rattle.fs_ops_effects.specs.Plans.{pair_plan, moving, swapping, moved_by}
+use Rattle.fs_ops_effects.specs.declared.plan.Plan.{Plan}
 use Rattle.fs_walk.specs.declared.head.Head as count
 use Rattle.fs_walk.specs.declared.want.Want.TheVariants.{Arrived}
 use Rattle.fs_walk.specs.Ways.{Way, ForkWay, head_name}

@@ -6,7 +6,7 @@ use Rattle.fs_names.specs.Parts.{common, left}
 use Rattle.fs_names.proofs.Lemmas.{same_name_refl, same_name_exact}
 use Rattle.fs_calls.specs.Forms.{Form, AtNode, AtEntry, AtPair}
 use Rattle.fs_machine.specs.Moves.{target, tail_of}
-use Rattle.fs_finish.specs.Paths.{first_path}
+use Rattle.fs_ops_effects.specs.Paths.{first_path}
 use Rattle.fs_ops.specs.OpValue.{dropped}
 
 -- what is left behind the first names

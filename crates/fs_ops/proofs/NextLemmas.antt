@@ -13,7 +13,7 @@ use Rattle.fs_calls.specs.declared.errno.Errno.{Errno}
 use Rattle.fs_walk.specs.declared.want.Want.TheVariants.{Arrived}
 use Rattle.fs_walk.specs.Ways.{Way, ForkWay, name_ahead}
 use Rattle.fs_walk.specs.Wants.{step_want, want, way_want}
-use Rattle.fs_finish.specs.Plans.{entry_plan, moved_by}
+use Rattle.fs_ops_effects.specs.Plans.{entry_plan, moved_by}
 use Rattle.fs_machine.specs.Moves.{take_if, victim_of, target, target_move, first_of, step_move, behind_first, next_on, next_by}
 use Rattle.fs_machine.specs.declared.moves.Move.{Move}
 use Rattle.fs_machine.specs.declared.moves.Move.TheVariants.{Finish as Finishes}
@@ -22,7 +22,7 @@ use Rattle.fs_machine.specs.declared.moves.Moved.TheVariants.{Nothing}
 use Rattle.fs_ops.specs.code.NextByNodes.{entry_next, target_next, way_next, way_next_at}
 use Rattle.fs_ops.specs.PlanOf.{move_of}
 use Rattle.fs_machine.specs.Records.{Walking}
-use Rattle.fs_finish.specs.Paths.{first_path}
+use Rattle.fs_ops_effects.specs.Paths.{first_path}
 use Rattle.fs_ops.specs.OpValue.{IsOp, Forks, behind_in, dropped, holdings_with, holdings_of, op_value, reply_of}
 use Rattle.fs_machine.specs.OpValues.{OpValue, record_of, next_of}
 use Rattle.fs_ops.specs.declared.stand.Stand.{Stand}

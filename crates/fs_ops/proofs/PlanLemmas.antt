@@ -14,10 +14,10 @@ use Rattle.fs_walk.specs.declared.want.Want.{Want}
 use Rattle.fs_walk.specs.declared.want.Want.TheVariants.{Take, LetGo, Arrived, Fails as Lost}
 use Rattle.fs_walk.specs.Ways.{Way, ForkWay, name_ahead, head_name}
 use Rattle.fs_walk.specs.Wants.{name_want, step_want, then_want, at_dir, dir_want, way_want, want, fork_want, behind_or, heads_want}
-use Rattle.fs_finish.specs.Paths.{first_path}
-use Rattle.fs_finish.specs.Plans.{node_plan, entry_plan}
-use Rattle.fs_finish.specs.declared.plan.Plan.{Plan}
-use Rattle.fs_finish.specs.declared.plan.Plan.TheVariants.{Fails, Answers}
+use Rattle.fs_ops_effects.specs.Paths.{first_path}
+use Rattle.fs_ops_effects.specs.Plans.{node_plan, entry_plan}
+use Rattle.fs_ops_effects.specs.declared.plan.Plan.{Plan}
+use Rattle.fs_ops_effects.specs.declared.plan.Plan.TheVariants.{Fails, Answers}
 use Rattle.fs_machine.specs.Moves.{target, path_error, dir_error, walk_errno}
 use Rattle.fs_machine.specs.Records.{Holdings}
 use Rattle.fs_ops.specs.OpValue.{behind_in, Forks, IsForked, dropped, holdings_with, holdings_of}

@@ -18,7 +18,7 @@ use Rattle.fs_walk.specs.Ways as ways
 use Rattle.fs_walk.specs.Ways.{Way, ForkWay, new_fork, head_name, may_take, walking, fork_took, has_arrived, has_set_out}
 use Rattle.fs_machine.specs.Moves.{target, inner, head_took, victim_took, step_or, target_took}
 use Rattle.fs_machine.specs.Records.{Source, Dest, held_on}
-use Rattle.fs_finish.specs.Paths.{first_path}
+use Rattle.fs_ops_effects.specs.Paths.{first_path}
 use Rattle.fs_ops.specs.OpValue.{behind_in, dropped, head_of, holdings_with, op_value, Forks, IsForked}
 use Rattle.fs_ops.specs.declared.stand.Stand.{Stand}
 use Rattle.fs_ops.specs.code.TakeAndLetGo.{started, heads_after, walk_on, TakesTo}

@@ -18,7 +18,7 @@ use Rattle.fs_machine.specs.declared.moves.Moved.TheVariants.{Nothing}
 use Rattle.fs_ops.specs.code.NextByNodes.{want_next}
 use Rattle.fs_ops.specs.PlanOf.{move_of}
 use Rattle.fs_ops.specs.declared.next.Next.{Next}
-use Rattle.fs_finish.specs.Paths.{first_path}
+use Rattle.fs_ops_effects.specs.Paths.{first_path}
 use Rattle.fs_ops.specs.OpValue.{dropped, head_of}
 use Rattle.fs_ops.proofs.KeyLemmas.{left_take, parent_drop, drop_get, target_drop, target_take}
 

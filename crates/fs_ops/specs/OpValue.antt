@@ -14,8 +14,8 @@ use Rattle.fs_ops.specs.declared.outcome.Outcome.TheVariants.{Open, Fixed}
 use Rattle.fs_ops.specs.declared.stand.Stand.{Stand}
 use Rattle.fs_machine.specs.Moves.{target, left_holdings}
 use Rattle.fs_machine.specs.Records.{Finished, Head, Holdings, head_at, taken_if}
-use Rattle.fs_finish.specs.Paths.{first_path, second_path}
-use Rattle.fs_finish.specs.Rooms.{Suffices}
+use Rattle.fs_ops_effects.specs.Paths.{first_path, second_path}
+use Rattle.fs_ops_effects.specs.Rooms.{Suffices}
 use Rattle.fs_machine.specs.OpValues.{OpValue}
 
 -- the form of a call without so many first names of each path

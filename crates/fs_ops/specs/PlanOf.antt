@@ -11,9 +11,9 @@ use Rattle.fs_calls.specs.Forms as pairs
 use Rattle.fs_calls.specs.Rows.{as_dir, entry_fault, rename_fault, exchange_fault}
 use Rattle.fs_calls.specs.declared.errno.Errno.{Errno}
 use Rattle.fs_calls.specs.declared.errno.Errno.TheVariants.{Enoent}
-use Rattle.fs_finish.specs.Plans.{node_plan, entry_plan, pair_plan, moving, swapping, moved_by, Changes}
-use Rattle.fs_finish.specs.declared.plan.Plan.{Plan}
-use Rattle.fs_finish.specs.declared.plan.Plan.TheVariants.{Fails}
+use Rattle.fs_ops_effects.specs.Plans.{node_plan, entry_plan, pair_plan, moving, swapping, moved_by, Changes}
+use Rattle.fs_ops_effects.specs.declared.plan.Plan.{Plan}
+use Rattle.fs_ops_effects.specs.declared.plan.Plan.TheVariants.{Fails}
 use Rattle.fs_machine.specs.Moves.{target, walk_errno, path_error, dir_error, there_by}
 use Rattle.fs_machine.specs.declared.moves.Move.{Move}
 use Rattle.fs_machine.specs.declared.moves.Move.TheVariants as moves

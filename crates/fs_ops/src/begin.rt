@@ -15,11 +15,11 @@ ghost use Rattle.fs_machine.specs.OpValues.{BegunAs, new_value};
 use crate::end::give_back;
 use crate::prepared::Prepared;
 use fs_calls::{Call, Target};
-use fs_finish::entries::kind_of;
-use fs_finish::room::Room;
 use fs_memory::Memory;
 use fs_names::{Kind, Limits, PATH_LIMIT, Path};
 use fs_nodes::{NoNode, NodeNo, Store};
+use fs_ops_effects::entries::kind_of;
+use fs_ops_effects::room::Room;
 use std::alloc::{AllocError, Global};
 
 /// The kind of node that a call reserves a number for.

@@ -9,10 +9,10 @@ ghost use Rattle.fs_ops.specs.PlanOf.{IsPlan};
 
 use crate::op::Op;
 use crate::outcome::Outcome;
-use fs_finish::carrying::carry_out;
-use fs_finish::plan::Plan;
-use fs_finish::room::Room;
 use fs_nodes::Store;
+use fs_ops_effects::carrying::carry_out;
+use fs_ops_effects::plan::Plan;
+use fs_ops_effects::room::Room;
 
 /// The room that was prepared for a finish.
 fn take_room(outcome: &mut Outcome) -> Room

@@ -1,8 +1,8 @@
 //! What a call has before its finish and after it.
 
-use fs_finish::replies::Replies;
-use fs_finish::room::Room;
 use fs_locks::Held;
+use fs_ops_effects::replies::Replies;
+use fs_ops_effects::room::Room;
 
 /// The room for a finish, or what came of it and the nodes that the call has not let go since.
 #[derive(Drop)]

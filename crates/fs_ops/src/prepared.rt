@@ -12,9 +12,9 @@ use crate::op::Op;
 use crate::outcome::Outcome;
 use crate::stand::Stand;
 use fs_calls::Call;
-use fs_finish::room::Room;
 use fs_names::Limits;
 use fs_nodes::{NodeNo, Store};
+use fs_ops_effects::room::Room;
 use fs_walk::Walk;
 use std::marker::Model;
 
@@ -30,7 +30,7 @@ pub struct Prepared {
 impl Model for Prepared {
     ghost use Rattle.fs_names.specs.Limits.{in_blocks};
     ghost use Rattle.fs_calls.specs.Forms.{form};
-    ghost use Rattle.fs_finish.specs.Rooms.{Suffices};
+    ghost use Rattle.fs_ops_effects.specs.Rooms.{Suffices};
     ghost use Rattle.fs_machine.specs.OpValues.{OpValue, new_value};
 
     ghost Value = { OpValue };

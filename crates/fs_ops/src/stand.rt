@@ -5,9 +5,9 @@ ghost use Rattle.fs_locks.specs.declared.held.TheConstants.{HELD_LIMIT};
 ghost use Rattle.fs_ops.specs.code.NextByNodes.{route_by};
 ghost use Rattle.fs_ops.specs.code.TakeAndLetGo.{all_held};
 
-use fs_finish::plan::Route;
 use fs_locks::Held;
 use fs_nodes::NodeNo;
+use fs_ops_effects::plan::Route;
 use fs_walk::{Fork, Walk};
 
 /// Where a call is: its walk, then the heads of a call on two entries, and a victim.

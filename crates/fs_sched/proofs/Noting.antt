@@ -10,11 +10,11 @@ use Rattle.fs_sched.specs.Schedules.{one_event, goes_on}
 use Rattle.fs_sched.specs.declared.schedule.Schedule.{Schedule}
 use Rattle.fs_script.specs.declared.script.Script.{Script}
 use Rattle.fs_sched.specs.code.Stages.{AreOver}
-use Rattle.fs_witness.specs.declared.moments.Moment.{Moment}
-use Rattle.fs_witness.specs.declared.moments.Answer.{Answer}
-use Rattle.fs_witness.specs.declared.moments.Answer.TheVariants.{Spent}
+use Rattle.fs_sched_witness.specs.declared.moments.Moment.{Moment}
+use Rattle.fs_sched_witness.specs.declared.moments.Answer.{Answer}
+use Rattle.fs_sched_witness.specs.declared.moments.Answer.TheVariants.{Spent}
 use Rattle.fs_sched.specs.Moments.{AnswersEvent, IsMoment, AreMoments, word_of, words_of, AnswersToEnd, AnswersEnd, Over, More}
-use Rattle.fs_witness.specs.Moments.{event_of, spent_of, Hears}
+use Rattle.fs_sched_witness.specs.Moments.{event_of, spent_of, Hears}
 use Rattle.fs_sched.specs.Gives.{single_words, given_words, words_before}
 use Rattle.fs_sched.specs.code.Notes.{Happens, Notes, NotesCut, NotesToEnd, NotesRun}
 use Rattle.fs_sched.proofs.Staging.{one_less, nothing_more}

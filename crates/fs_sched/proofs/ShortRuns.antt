@@ -26,7 +26,7 @@ use Rattle.fs_script.specs.Script.{script_of}
 use Rattle.fs_script.specs.declared.script.Script.{Script}
 use Rattle.fs_script.specs.declared.script.Word.{Word}
 use Rattle.fs_script.specs.declared.script.Word.TheVariants as words
-use Rattle.fs_rows.specs.Rows.{IsWithinLimits}
+use Rattle.fs_seq.specs.Rows.{IsWithinLimits}
 use Rattle.fs_text.specs.Fits.{AllFit}
 use Rattle.fs_text.proofs.ShortLemmas.{short_names, all_short}
 use Rattle.fs_script.specs.Journals.{is_told}

@@ -13,7 +13,7 @@ use Rattle.fs_nodes.specs.Graphs.{Graph, numbers, then_at}
 use Rattle.fs_machine.specs.States.{State, IsStart, Run, Starting, Beginning, Stepping}
 use Rattle.fs_laws.proofs.journal.ViewOfTimeline.{begin_start, step_start}
 use Rattle.fs_laws.proofs.trees.SeenAsMaps.{old_has}
-use Rattle.fs_rows.specs.Rows.{IsWithinLimits}
+use Rattle.fs_seq.specs.Rows.{IsWithinLimits}
 
 -- some graph spells it
 record Begins (start : Start) : Type 0 where

@@ -17,15 +17,15 @@ use Rattle.fs_sched.specs.declared.schedule.Schedule.{Schedule}
 use Rattle.fs_sched.proofs.Staging.{seat_past, call_past}
 use Rattle.fs_sched.specs.Moments as answers
 use Rattle.fs_sched.specs.Moments.{AnswersEvent, IsMoment, AreMoments, word_of, words_of, AreOfWords, AnswersToEnd, AnswersEnd, TellsFrom}
-use Rattle.fs_witness.specs.Moments.{entries_of, entries_told}
+use Rattle.fs_sched_witness.specs.Moments.{entries_of, entries_told}
 use Rattle.fs_sched.specs.Gives.{single_words, given_words, words_before}
 use Rattle.fs_sched.specs.code.Stages.{stage_of, IsSeated}
 use Rattle.fs_sched.specs.declared.play.Play.{Play}
 use Rattle.fs_sched.specs.code.Notes.{Notes, NotesCut, NotesToEnd}
-use Rattle.fs_witness.specs.declared.moments.Answer.{Answer}
-use Rattle.fs_witness.specs.declared.moments.Answer.TheVariants as answer
-use Rattle.fs_witness.specs.declared.moments.Moment.{Moment}
-use Rattle.fs_witness.specs.declared.moments.Moment.TheVariants as moment
+use Rattle.fs_sched_witness.specs.declared.moments.Answer.{Answer}
+use Rattle.fs_sched_witness.specs.declared.moments.Answer.TheVariants as answer
+use Rattle.fs_sched_witness.specs.declared.moments.Moment.{Moment}
+use Rattle.fs_sched_witness.specs.declared.moments.Moment.TheVariants as moment
 
 -- an event that is answered is one
 pub event_told : (lists : List (List Call)) (old new : Stage) (seat : ℕ) (a : Answer) → AnswersEvent lists old seat a new → Event lists old seat new

@@ -21,7 +21,7 @@ use Rattle.fs_machine.specs.declared.answers.Stepped.TheVariants.{Idle, Took, Bu
 use Rattle.fs_laws.proofs.events.OneCallChanged.{Place, Here, Else, place}
 use Rattle.fs_laws.proofs.states.GraphOfARun.{call_seat}
 use Rattle.fs_laws.proofs.states.StartsEmpty.{starts_empty}
-use Rattle.fs_numbers.proofs.Again.{timelines_begin_again}
+use Rattle.fs_laws.proofs.Again.{timelines_begin_again}
 use Rattle.fs_words.specs.declared.fault.ScriptFault.{ScriptFault}
 use Rattle.fs_script.specs.declared.script.Script.{Script}
 use Rattle.fs_script.specs.declared.script.Word.{Word}

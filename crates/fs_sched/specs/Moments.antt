@@ -10,10 +10,10 @@ use Rattle.fs_sched.specs.Runs.{Stage, start, next_call, Does, Words, IsOver, Is
 use Rattle.fs_sched.specs.Schedules.{goes_on, one_event}
 use Rattle.fs_sched.specs.declared.schedule.Schedule.{Schedule}
 use Rattle.fs_sched.specs.Gives.{words_before}
-use Rattle.fs_witness.specs.declared.moments.Answer.{Answer}
-use Rattle.fs_witness.specs.declared.moments.Answer.TheVariants.{Spent, Begun, Stepped}
-use Rattle.fs_witness.specs.declared.moments.Moment.{Moment}
-use Rattle.fs_witness.specs.declared.moments.Moment.TheVariants.{Event, Checkpoint}
+use Rattle.fs_sched_witness.specs.declared.moments.Answer.{Answer}
+use Rattle.fs_sched_witness.specs.declared.moments.Answer.TheVariants.{Spent, Begun, Stepped}
+use Rattle.fs_sched_witness.specs.declared.moments.Moment.{Moment}
+use Rattle.fs_sched_witness.specs.declared.moments.Moment.TheVariants.{Event, Checkpoint}
 
 -- what an event of a thread is answered: that it is spent, the number of the call that begins, or what the step of its call did
 abbrev pub AnswersEvent : List (List Call) → Stage → ℕ → Answer → Stage → Type 0

@@ -2,8 +2,8 @@
 use Rattle.std.specs.Prelude.{◌≡◌, ◌++◌, List}
 use Rattle.fs_core.specs.CoreValues.{state_of}
 use Rattle.fs_script.specs.declared.script.Script.{Script}
-use Rattle.fs_witness.specs.Moments.{entries_told, Hears}
-use Rattle.fs_witness.specs.declared.moments.Moment.{Moment}
+use Rattle.fs_sched_witness.specs.Moments.{entries_told, Hears}
+use Rattle.fs_sched_witness.specs.declared.moments.Moment.{Moment}
 use Rattle.fs_sched.specs.Runs.{Stage, end_of}
 use Rattle.fs_sched.specs.Moments.{TellsRun}
 use Rattle.fs_sched.specs.declared.schedule.Schedule.{Schedule}

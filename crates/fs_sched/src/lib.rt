@@ -23,12 +23,11 @@ mod seats;
 mod seeding;
 mod watching;
 
-pub use fs_io::{Device, Failed, Sink, Source, device};
+pub use fs_sched_witness::{Answer, Moment, Silent, Told, Witness};
 pub use fs_verdict::{
-    Checked, RunFault, between, call_of, check_bytes, check_journal, due_reply, is_lawful,
-    journal_in, kind_text, push_verdict, run_fault, write_text,
+    Checked, Device, Failed, RunFault, Sink, Source, between, call_of, check_bytes, check_journal,
+    device, due_reply, is_lawful, journal_in, kind_text, push_verdict, run_fault, write_text,
 };
-pub use fs_witness::{Answer, Moment, Silent, Told, Witness};
 pub use input::script_in;
 pub use play::{checkpoint_fault, refusal_fault};
 pub use run_texts::{Counts, EntryKind, counts_of, number_of, push_counts};

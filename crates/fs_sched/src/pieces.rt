@@ -16,9 +16,9 @@ use crate::play::Play;
 use crate::run_texts::{Counts, counts_of};
 use crate::schedule::{Schedule, ends_drawn, is_events};
 use fs_core::Core;
+use fs_sched_witness::{Moment, Witness};
 use fs_script::{CallLists, Script, Word};
 use fs_verdict::RunFault;
-use fs_witness::{Moment, Witness};
 use std::alloc::{AllocError, Global};
 
 /// A run in its last piece, and how many entries the pieces before had.

@@ -7,7 +7,7 @@ ghost use Rattle.fs_core.specs.CoreValues.{state_of};
 ghost use Rattle.fs_machine.specs.States.{Begins};
 ghost use Rattle.fs_sched.specs.Runs.{before_all, has_more, Event, Events, Round, ToEnd, Does, IsRefused, Stops, StopsInRounds, StopsAt};
 ghost use Rattle.fs_sched.specs.Schedules.{drawn_seats, one_event};
-ghost use Rattle.fs_witness.specs.Moments.{Hears, event_of, spent_of};
+ghost use Rattle.fs_sched_witness.specs.Moments.{Hears, event_of, spent_of};
 ghost use Rattle.fs_sched.specs.code.Notes.{Happens, Notes, NotesCut, NotesToEnd};
 ghost use Rattle.fs_sched.specs.code.Stages.{stage_of, IsSeated, IsMarked, AreOver, IsRefusal, IsWhy, fault_of_checkpoint};
 
@@ -16,10 +16,10 @@ use crate::seats::SeatsAhead;
 use fs_calls::Call;
 use fs_core::{Core, NoCheckpoint, Refusal, Stepped};
 use fs_names::{CallNo, SeatNo};
+use fs_sched_witness::{Answer, Moment, Told, Witness};
 use fs_script::{CallLists, Word};
 use fs_timeline::Entry;
 use fs_verdict::RunFault;
-use fs_witness::{Answer, Moment, Told, Witness};
 use std::alloc::{AllocError, Global};
 
 /// The core, with a seat for each thread, how many calls of each thread have begun, and which threads were found to be

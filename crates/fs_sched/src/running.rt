@@ -25,10 +25,9 @@ use crate::run_texts::{Counts, counted_text};
 use crate::schedule::Schedule;
 use fs_calls::Call;
 use fs_core::Core;
-use fs_io::{Made, Sink, Source, transform};
+use fs_sched_witness::{Silent, Witness};
 use fs_script::Script;
-use fs_verdict::{RunFault, between};
-use fs_witness::{Silent, Witness};
+use fs_verdict::{Made, RunFault, Sink, Source, between, transform};
 use std::alloc::Global;
 
 /// How a run ended: how many calls began, took their place and returned, of how many calls of the script.

@@ -16,13 +16,12 @@ use crate::input::script_in;
 use crate::play::Play;
 use crate::running::{play, root_core};
 use crate::schedule::Schedule;
-use fs_io::{Made, Sink, Source, transform};
 use fs_journal::check_from;
+use fs_sched_witness::{Silent, Witness};
 use fs_script::Script;
 use fs_text::Addition;
 use fs_timeline::Verdict;
-use fs_verdict::{RunFault, between, is_lawful, push_verdict};
-use fs_witness::{Silent, Witness};
+use fs_verdict::{Made, RunFault, Sink, Source, between, is_lawful, push_verdict, transform};
 use std::alloc::{AllocError, Global};
 
 /// The greatest number that a first run is drawn from.

@@ -10,9 +10,9 @@ use crate::run_texts::counts_of;
 use crate::running::{RunEnd, play, root_core, run_end};
 use crate::schedule::Schedule;
 use fs_core::Core;
+use fs_sched_witness::Witness;
 use fs_script::Script;
 use fs_verdict::RunFault;
-use fs_witness::Witness;
 use std::alloc::Global;
 
 /// A run that has come to its end: its core, and how it ended in all its pieces.

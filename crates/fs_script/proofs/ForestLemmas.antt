@@ -10,14 +10,14 @@ use Rattle.fs_names.specs.Shapes.{Shape, names_of}
 use Rattle.fs_names.specs.Shapes as shapes
 use Rattle.fs_names.proofs.Lemmas.{same_name_exact}
 use Rattle.fs_calls.specs.Sights.{tree_shapes}
-use Rattle.fs_slab.specs.code.Slots.{Place, links_of, place_at, shape_of, links_at, child, walk_from, walk, node_at, shape_at, tree_of, IsForest}
-use Rattle.fs_slab.specs.code.Slots as forest
-use Rattle.fs_slab.proofs.GraphLemmas.{walk-append}
+use Rattle.fs_seq_nodes.specs.code.Slots.{Place, links_of, place_at, shape_of, links_at, child, walk_from, walk, node_at, shape_at, tree_of, IsForest}
+use Rattle.fs_seq_nodes.specs.code.Slots as forest
+use Rattle.fs_seq_nodes.proofs.GraphLemmas.{walk-append}
 use Rattle.fs_seq.proofs.ForestTrees.{forest_tree}
-use Rattle.fs_slab.proofs.Resolving.{seen_at, seen_none}
+use Rattle.fs_seq_nodes.proofs.Resolving.{seen_at, seen_none}
 use Rattle.fs_nodes.specs.Graphs.{Graph, Children, then_at, at, graph_shapes}
 use Rattle.fs_nodes.specs.Seen.{Seen, Ascends, IsReal}
-use Rattle.fs_plain.proofs.AscentLemmas.{above_more}
+use Rattle.fs_nodes_places.proofs.AscentLemmas.{above_more}
 use Rattle.fs_script.specs.TreeText.{IsSpelled}
 use Rattle.fs_script.specs.code.Walks.{number_or, links, place_of, places_from, forest_of}
 

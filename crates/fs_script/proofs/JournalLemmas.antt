@@ -19,8 +19,8 @@ use Rattle.fs_names.specs.declared.kind.Kind.TheVariants as kinds
 use Rattle.fs_calls.specs.Tree.{Tree, Node, Dir, File, root_tree}
 use Rattle.fs_calls.specs.Starts.{Start, root_start}
 use Rattle.fs_timeline.specs.declared.entry.Entry.{Entry}
-use Rattle.fs_rows.specs.Rows.{node_of_kind, IsWithinLimits}
-use Rattle.fs_rows.proofs.Fitting.{node_fits, root_first}
+use Rattle.fs_seq.specs.Rows.{node_of_kind, IsWithinLimits}
+use Rattle.fs_seq.proofs.Fitting.{node_fits, root_first}
 use Rattle.fs_words.specs.Lines.{lines_of, pieces_of, has_empty, is_passed_over}
 use Rattle.fs_words.specs.Words.{is_escaped, escaped, path_word}
 use Rattle.fs_words.specs.Reading.{◌>>=◌, words_of}

@@ -8,8 +8,8 @@ use Rattle.fs_calls.specs.Tree.{Tree}
 use Rattle.fs_calls.specs.Starts.{Start, root_start}
 use Rattle.fs_timeline.specs.declared.entry.Entry.{Entry}
 use Rattle.fs_text.specs.Journal as text
-use Rattle.fs_rows.specs.declared.rows.Row.{Row}
-use Rattle.fs_rows.specs.Rows.{row_of}
+use Rattle.fs_seq.specs.declared.rows.Row.{Row}
+use Rattle.fs_seq.specs.Rows.{row_of}
 use Rattle.fs_script.specs.TreeText.{node_line}
 use Rattle.fs_script.specs.Laws.{FitsNode}
 use Rattle.fs_words.specs.Headers.{started_header}

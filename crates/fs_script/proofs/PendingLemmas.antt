@@ -4,8 +4,8 @@ use Rattle.std.specs.List.{flat_map}
 use Rattle.std.proofs.lemmas.Grind.{flat_map-append}
 use Rattle.fs_names.specs.Names.{Name}
 use Rattle.fs_names.specs.Keys.{Key}
-use Rattle.fs_slab.specs.code.Slots.{Place, links_of, node_of, place_at, links_at, child, walk_from, walk, node_at, spelled, keys_from, with_node, nodes_at, tree_of, IsForest}
-use Rattle.fs_slab.specs.code.Slots as forest
+use Rattle.fs_seq_nodes.specs.code.Slots.{Place, links_of, node_of, place_at, links_at, child, walk_from, walk, node_at, spelled, keys_from, with_node, nodes_at, tree_of, IsForest}
+use Rattle.fs_seq_nodes.specs.code.Slots as forest
 use Rattle.fs_script.specs.code.Walks.{key_above, Leads, links_above, keys_behind, pending}
 use Rattle.fs_script.specs.declared.tree.Step.{Step}
 

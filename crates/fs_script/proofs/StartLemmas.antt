@@ -8,14 +8,13 @@ use Rattle.fs_names.specs.Limits.{entry_limit, file_limit}
 use Rattle.fs_names.specs.declared.limits.Limits.{Limits}
 use Rattle.fs_names.specs.declared.kind.Kind.{Kind}
 use Rattle.fs_names.specs.declared.kind.Kind.TheVariants.{Dir}
-use Rattle.fs_calls.specs.Tree.{Tree, Node, root_tree, look, names_in}
-use Rattle.fs_calls.specs.Tree.{Dir as IsDir, File as IsFile}
+use Rattle.fs_calls.specs.Tree.{Tree, Node, root_tree, look, names_in, Dir as IsDir, File as IsFile}
 use Rattle.fs_calls.proofs.TreeLaws.{played_trees_are_trees}
 use Rattle.fs_calls.specs.Starts.{Start}
 use Rattle.fs_calls.specs.Sights.{has_any}
 use Rattle.fs_timeline.specs.declared.entry.Entry.{Entry}
-use Rattle.fs_rows.specs.declared.rows.Row.{Row}
-use Rattle.fs_rows.specs.Rows.{row_of, fits, is_first, is_dirs, misfit, misfit_from, node_of_kind, IsWithinLimits}
+use Rattle.fs_seq.specs.declared.rows.Row.{Row}
+use Rattle.fs_seq.specs.Rows.{row_of, fits, is_first, is_dirs, misfit, misfit_from, node_of_kind, IsWithinLimits}
 use Rattle.fs_words.specs.Lines.{is_passed_over}
 use Rattle.fs_words.specs.Reading.{◌>>=◌, fault_at}
 use Rattle.fs_words.specs.declared.fault.ScriptFault.{ScriptFault}

@@ -18,7 +18,7 @@ use Rattle.fs_calls.specs.Tree.{Tree, Node, root_tree}
 use Rattle.fs_calls.specs.Starts.{Start, root_start}
 use Rattle.fs_timeline.specs.declared.entry.Entry.{Entry}
 use Rattle.fs_timeline.proofs.KeptNames.{NamesTree}
-use Rattle.fs_rows.specs.Rows.{node_of_kind, fits_at}
+use Rattle.fs_seq.specs.Rows.{node_of_kind, fits_at}
 use Rattle.fs_words.specs.Lines.{is_line_feed, without_last_empty, lines_of, is_passed_over}
 use Rattle.fs_words.specs.Words.{Word}
 use Rattle.fs_words.specs.code.Answers.{GivesText}

@@ -8,10 +8,10 @@ use Rattle.fs_names.specs.Shapes as shapes
 use Rattle.fs_words.proofs.WriteLemmas.{root_word}
 use Rattle.fs_calls.specs.Tree.{Node, Tree}
 use Rattle.fs_calls.specs.Tree as tree
-use Rattle.fs_slab.specs.code.Slots as forest
-use Rattle.fs_slab.specs.code.Slots.{links_of, node_of, links_at, child, walk, spelled, keys_from, with_node, nodes_at, tree_of, IsForest}
-use Rattle.fs_slab.proofs.GraphLemmas.{shorter}
-use Rattle.fs_slab.proofs.Resolving as resolving
+use Rattle.fs_seq_nodes.specs.code.Slots as forest
+use Rattle.fs_seq_nodes.specs.code.Slots.{links_of, node_of, links_at, child, walk, spelled, keys_from, with_node, nodes_at, tree_of, IsForest}
+use Rattle.fs_seq_nodes.proofs.GraphLemmas.{shorter}
+use Rattle.fs_seq_nodes.proofs.Resolving as resolving
 use Rattle.fs_nodes.specs.Graphs.{Children}
 use Rattle.fs_nodes.specs.Seen.{Seen, IsReal}
 use Rattle.fs_nodes.specs.Stores.{is_above, names_above, next_entry}
@@ -20,7 +20,7 @@ use Rattle.fs_script.specs.TreeText.{node_line, tree_text}
 use Rattle.fs_script.specs.code.Walks.{number_or, links, place_of, forest_of, node_seen, WalkPlace, key_above, Leads, IsLast, links_above, pending, pending_at, text_at, Goes, Steps, visited, row_text, IsUp, at_root}
 use Rattle.fs_script.specs.declared.tree.Step.{Step}
 use Rattle.fs_script.proofs.ForestLemmas.{place_in, named_child, store_forest}
-use Rattle.fs_rows.proofs.RisingLemmas.{walked_rows}
+use Rattle.fs_seq.proofs.RisingLemmas.{walked_rows}
 use Rattle.fs_script.proofs.PendingLemmas.{down, up, no_more, leads_down, leads_up, led, behind_all}
 
 -- ---- links

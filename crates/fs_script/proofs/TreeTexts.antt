@@ -6,7 +6,7 @@ use Rattle.std.proofs.lemmas.Bool.{cond-true, cond-false}
 use Rattle.fs_names.specs.Keys.{Key}
 use Rattle.fs_calls.specs.Tree.{Node, Tree}
 use Rattle.fs_calls.specs.Starts.{Start}
-use Rattle.fs_rows.proofs.Fitting.{root_first}
+use Rattle.fs_seq.proofs.Fitting.{root_first}
 use Rattle.fs_script.specs.TreeText.{node_line, node_words, tree_text}
 use Rattle.fs_script.specs.Laws.{ReadsTreesBack}
 use Rattle.fs_names.specs.declared.limits.Limits.{Limits}

@@ -12,7 +12,7 @@ use Rattle.fs_names.specs.declared.kind.Kind.TheVariants.{Dir, File}
 use Rattle.fs_calls.specs.Tree.{Tree, root_tree}
 use Rattle.fs_calls.specs.Starts.{Start, root_start}
 use Rattle.fs_timeline.specs.declared.entry.Entry.{Entry}
-use Rattle.fs_rows.specs.Rows.{node_of_kind, fits_at}
+use Rattle.fs_seq.specs.Rows.{node_of_kind, fits_at}
 use Rattle.fs_words.specs.Lines.{is_passed_over, lines_of}
 use Rattle.fs_words.specs.Words.{Word}
 use Rattle.fs_words.specs.Reading.{◌>>=◌, hex_at, words_of, fault_at, behind_first, headed}

@@ -7,7 +7,7 @@ use Rattle.fs_names.specs.declared.limits.Limits.{Limits}
 use Rattle.fs_calls.specs.Tree.{Node, Dir, File}
 use Rattle.fs_calls.specs.Starts.{Start}
 use Rattle.fs_timeline.specs.declared.entry.Entry.{Entry}
-use Rattle.fs_rows.specs.Rows.{IsWithinLimits as IsTreeWithinLimits}
+use Rattle.fs_seq.specs.Rows.{IsWithinLimits as IsTreeWithinLimits}
 use Rattle.fs_words.specs.Headers.{text_limit}
 use Rattle.fs_text.specs.Fits.{FitsName, AllFit}
 use Rattle.fs_script.specs.TreeText.{tree_text}

@@ -4,7 +4,7 @@ ghost use Rattle.std.specs.Prelude.{◌≡◌, ◌∷◌, ◌++◌, ◌==◌, �
 ghost use Rattle.std.specs.List.{slice_split, join_with_byte};
 ghost use Rattle.std.specs.Str.{bytes_eq};
 ghost use Rattle.fs_names.specs.Reading.{is_slash};
-ghost use Rattle.fs_rows.specs.Rows.{key_of, node_of_kind, row_of, is_first, IsWithinLimits};
+ghost use Rattle.fs_seq.specs.Rows.{key_of, node_of_kind, row_of, is_first, IsWithinLimits};
 ghost use Rattle.fs_names.specs.declared.limits.Limits.TheVariants.{V1};
 ghost use Rattle.fs_calls.specs.Tree.{root_tree};
 ghost use Rattle.fs_calls.specs.Starts.{root_start};

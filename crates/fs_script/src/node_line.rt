@@ -6,7 +6,7 @@ ghost use Rattle.fs_names.specs.Limits.{largest};
 ghost use Rattle.fs_text.specs.Fits.{FitsName};
 ghost use Rattle.fs_names.specs.Keys.{is_root};
 ghost use Rattle.fs_words.specs.Words.{escaped, path_word};
-ghost use Rattle.fs_rows.specs.Rows.{key_of, node_of_kind, row_of};
+ghost use Rattle.fs_seq.specs.Rows.{key_of, node_of_kind, row_of};
 ghost use Rattle.fs_script.specs.TreeText.{node_words};
 ghost use Rattle.fs_script.specs.Laws.{FitsNode};
 ghost use Rattle.fs_script.specs.code.Walks.{key_above, node_with};

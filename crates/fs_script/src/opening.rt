@@ -3,7 +3,7 @@
 ghost use Rattle.std.specs.Prelude.{◌≡◌, ◌++◌, true, OnOk, OnErr, length, map};
 ghost use Rattle.std.specs.List.{AllByRecursion, flat_map};
 ghost use Rattle.fs_names.specs.Limits.{largest};
-ghost use Rattle.fs_rows.specs.Rows.{row_of};
+ghost use Rattle.fs_seq.specs.Rows.{row_of};
 ghost use Rattle.fs_script.specs.TreeText.{node_line};
 ghost use Rattle.fs_script.specs.Laws.{FitsNode};
 ghost use Rattle.fs_script.specs.Journals.{is_told, opening};

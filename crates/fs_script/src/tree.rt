@@ -6,7 +6,7 @@ ghost use Rattle.fs_nodes.specs.Seen.{seen, IsReal};
 ghost use Rattle.fs_nodes.specs.Stores.{graph_of, shape, child, next_entry, IsNextName, lent};
 ghost use Rattle.fs_script.specs.TreeText.{tree_text, AppendsTree};
 ghost use Rattle.fs_script.specs.code.Walks.{WalkPlace, forest_of, key_above, Leads, IsLast, Steps, IsUp, visited, row_text, node_seen, node_with, text_at, pending_at, at_root};
-ghost use Rattle.fs_slab.specs.code.Slots.{tree_of};
+ghost use Rattle.fs_seq_nodes.specs.code.Slots.{tree_of};
 
 use crate::node_line::push_node;
 use fs_names::Name;

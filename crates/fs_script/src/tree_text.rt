@@ -1,7 +1,7 @@
 //! Trees that are read from their text.
 
 ghost use Rattle.std.specs.Prelude.{◌≡◌, ◌-◌, max, Some, Result, IfOk};
-ghost use Rattle.fs_rows.specs.Rows.{IsWithinLimits};
+ghost use Rattle.fs_seq.specs.Rows.{IsWithinLimits};
 ghost use Rattle.fs_words.specs.Lines.{lines_of};
 ghost use Rattle.fs_words.specs.code.Answers.{FailsThere, GivesText};
 ghost use Rattle.fs_words.specs.declared.fault.ScriptFault.{ScriptFault};

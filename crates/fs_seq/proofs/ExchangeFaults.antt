@@ -13,12 +13,12 @@ use Rattle.fs_calls.specs.declared.call.Call.TheVariants.{Exchange}
 use Rattle.fs_calls.specs.declared.errno.Errno.{Errno}
 use Rattle.fs_calls.specs.declared.errno.Errno.TheVariants.{Ebusy, Einval}
 use Rattle.fs_calls.proofs.FaultLemmas.{all_none, or_first, or_second}
-use Rattle.fs_slab.specs.declared.nodes.Entry.{Entry}
-use Rattle.fs_slab.specs.declared.nodes.Spot.{Spot}
-use Rattle.fs_slab.specs.declared.nodes.Spot.TheVariants.{Taken, Free}
-use Rattle.fs_slab.specs.code.Slots.{Slots, tree_of, IsForest}
+use Rattle.fs_seq_nodes.specs.declared.nodes.Entry.{Entry}
+use Rattle.fs_seq_nodes.specs.declared.nodes.Spot.{Spot}
+use Rattle.fs_seq_nodes.specs.declared.nodes.Spot.TheVariants.{Taken, Free}
+use Rattle.fs_seq_nodes.specs.code.Slots.{Slots, tree_of, IsForest}
 use Rattle.fs_seq.specs.code.Effects.{HasFault}
-use Rattle.fs_slab.specs.code.Nodes.{LooksUp, IsAt, shape_there, entry_there}
+use Rattle.fs_seq_nodes.specs.code.Nodes.{LooksUp, IsAt, shape_there, entry_there}
 use Rattle.fs_seq.proofs.Spots.{has_names, spot_parents, spot_seen}
 use Rattle.fs_seq.proofs.Replies.{fault_by_row}
 

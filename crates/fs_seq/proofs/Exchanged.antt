@@ -18,19 +18,19 @@ use Rattle.fs_calls.specs.declared.reply.Reply.TheVariants.{Done}
 use Rattle.fs_calls.proofs.KeyLemmas.{never_same, is_same_refl, parent_and_last}
 use Rattle.fs_calls.proofs.ExchangedTrees.{Beside}
 use Rattle.fs_calls.proofs.FaultLemmas.{Exchanges, by_text_none, exchange_exchanges}
-use Rattle.fs_slab.specs.declared.nodes.Entry.{Entry}
-use Rattle.fs_slab.specs.code.Slots.{Dir, Slots, place_at, node_of, links_of, links_at, child, walk, node_at, tree_of, IsForest, Sets, KeepsForm}
-use Rattle.fs_slab.specs.code.Nodes.{name_of, IsNameAt, IsAt}
+use Rattle.fs_seq_nodes.specs.declared.nodes.Entry.{Entry}
+use Rattle.fs_seq_nodes.specs.code.Slots.{Dir, Slots, place_at, node_of, links_of, links_at, child, walk, node_at, tree_of, IsForest, Sets, KeepsForm}
+use Rattle.fs_seq_nodes.specs.code.Nodes.{name_of, IsNameAt, IsAt}
 use Rattle.fs_seq.specs.code.Effects.{Answers, HasFault}
 use Rattle.fs_seq.specs.code.Exchanging.{Swaps}
-use Rattle.fs_slab.proofs.Edits.{Links}
+use Rattle.fs_seq_nodes.proofs.Edits.{Links}
 use Rattle.fs_seq.proofs.ForestTrees.{forest_tree}
 use Rattle.fs_seq.proofs.LinkEdits.{set_rising, named_elsewhere, other_place}
 use Rattle.fs_seq.proofs.ExchangeFaults.{named, other_named}
 use Rattle.fs_seq.proofs.Spots.{taken_walk}
-use Rattle.fs_slab.proofs.FormLemmas.{form_edit}
+use Rattle.fs_seq_nodes.proofs.FormLemmas.{form_edit}
 use Rattle.fs_seq.proofs.Replies.{at_each, works, answers}
-use Rattle.fs_slab.proofs.Resolving.{child-find}
+use Rattle.fs_seq_nodes.proofs.Resolving.{child-find}
 use Rattle.fs_seq.proofs.Rewiring.{which, other_name, other_last, find-put_link, rising-put, child_of, same_child}
 use Rattle.fs_seq.proofs.Swapping.{Turned, forest_swapped, tree_swapped}
 

@@ -3,10 +3,10 @@ use Rattle.std.proofs.Common.{◌≡◌, ℕ, [], ◌∷◌, ◌++◌, Some, Non
 use Rattle.fs_names.specs.Names.{Name}
 use Rattle.fs_names.specs.Keys.{Key}
 use Rattle.fs_calls.specs.Tree.{Node, Dir as IsDir, IsTree}
-use Rattle.fs_slab.specs.code.Slots.{Place, Dir, File, Slots, place_at, node_of, child, walk, spelled, tree_of, IsForest}
-use Rattle.fs_slab.proofs.GraphLemmas.{look-tree_of, sorted-tree_of}
-use Rattle.fs_slab.proofs.Resolving.{spelled_at, spelled_none, walk_off}
-use Rattle.fs_slab.proofs.Edits.{walk-snoc, on_from, on_none}
+use Rattle.fs_seq_nodes.specs.code.Slots.{Place, Dir, File, Slots, place_at, node_of, child, walk, spelled, tree_of, IsForest}
+use Rattle.fs_seq_nodes.proofs.GraphLemmas.{look-tree_of, sorted-tree_of}
+use Rattle.fs_seq_nodes.proofs.Resolving.{spelled_at, spelled_none, walk_off}
+use Rattle.fs_seq_nodes.proofs.Edits.{walk-snoc, on_from, on_none}
 use Rattle.fs_seq.proofs.Rewiring.{child_of}
 
 -- what holds is true

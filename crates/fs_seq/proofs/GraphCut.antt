@@ -6,15 +6,14 @@ use Rattle.fs_names.specs.Names.{Name, name_cmp, same_name}
 use Rattle.fs_names.specs.Keys.{Key, same_key, after_prefix}
 use Rattle.fs_names.proofs.Lemmas.{name_exact, after_prefix-append, after_prefix-exact}
 use Rattle.fs_calls.specs.Tree.{Node, look, removed}
-use Rattle.fs_slab.specs.code.Slots.{Dir, Slots, place_at, links_of, node_of, links_at, child, walk_from, walk, node_at, spelled, tree_of, IsForest, Sets}
-use Rattle.fs_slab.specs.code.Nodes.{without}
+use Rattle.fs_seq_nodes.specs.code.Slots.{Dir, Slots, place_at, links_of, node_of, links_at, child, walk_from, walk, node_at, spelled, tree_of, IsForest, Sets}
+use Rattle.fs_seq_nodes.specs.code.Nodes.{without}
 use Rattle.fs_calls.proofs.LookLemmas.{same_key_exact, same_key_refl, look-removed, sorted-removed}
-use Rattle.fs_slab.proofs.GraphLemmas.{walk-append, look-tree_of, sorted-tree_of, is_tree_of}
-use Rattle.fs_calls.proofs.ListLemmas.{no_longer}
-use Rattle.fs_slab.proofs.Edits.{Unlinks, outside, walk-unlinked, nat_same, nat_differ}
-use Rattle.fs_slab.proofs.Resolving.{spelled_at, spelled_none, walk_on}
-use Rattle.fs_calls.proofs.ListLemmas.{true_T}
-use Rattle.fs_slab.proofs.NodeLemmas.{child_got}
+use Rattle.fs_seq_nodes.proofs.GraphLemmas.{walk-append, look-tree_of, sorted-tree_of, is_tree_of}
+use Rattle.fs_calls.proofs.ListLemmas.{no_longer, true_T}
+use Rattle.fs_seq_nodes.proofs.Edits.{Unlinks, outside, walk-unlinked, nat_same, nat_differ}
+use Rattle.fs_seq_nodes.proofs.Resolving.{spelled_at, spelled_none, walk_on}
+use Rattle.fs_seq_nodes.proofs.NodeLemmas.{child_got}
 
 -- a choice by the opposite
 turned : (b : Bool) (o : Option ℕ) → cond {A = Option ℕ} (not b) o None ≡ cond {A = Option ℕ} b None o

@@ -6,12 +6,12 @@ use Rattle.fs_names.specs.Names.{Name, name_cmp}
 use Rattle.fs_names.specs.Keys.{Key, same_key}
 use Rattle.fs_calls.specs.Tree.{Node, Tree, look, inserted}
 use Rattle.fs_calls.specs.Tree as tree
-use Rattle.fs_slab.specs.code.Slots.{File, Slots, place_at, links_of, node_of, links_at, child, walk_from, walk, node_at, spelled, tree_of, IsForest, Sets}
+use Rattle.fs_seq_nodes.specs.code.Slots.{File, Slots, place_at, links_of, node_of, links_at, child, walk_from, walk, node_at, spelled, tree_of, IsForest, Sets}
 use Rattle.fs_calls.proofs.LookLemmas.{same_key_exact, same_key_refl, look-inserted, sorted-inserted}
-use Rattle.fs_slab.proofs.GraphLemmas.{look-tree_of, sorted-tree_of, is_tree_of}
-use Rattle.fs_slab.proofs.Edits.{nat_same, nat_differ}
-use Rattle.fs_slab.proofs.Resolving.{spelled_at, spelled_none}
-use Rattle.fs_slab.proofs.NodeLemmas.{child_got}
+use Rattle.fs_seq_nodes.proofs.GraphLemmas.{look-tree_of, sorted-tree_of, is_tree_of}
+use Rattle.fs_seq_nodes.proofs.Edits.{nat_same, nat_differ}
+use Rattle.fs_seq_nodes.proofs.Resolving.{spelled_at, spelled_none}
+use Rattle.fs_seq_nodes.proofs.NodeLemmas.{child_got}
 
 -- where all steps are the same, so are all walks
 pub walk-same : (g g' : Slots) → ((j : ℕ) (y : Name) → child g' j y ≡ child g j y) → (n : ℕ) (k : Key) → walk_from g' n k ≡ walk_from g n k

@@ -3,9 +3,9 @@ use Rattle.std.proofs.Common.{◌≡◌, ℕ, None, subst, sym}
 use Rattle.fs_names.specs.Limits.{in_blocks}
 use Rattle.fs_names.specs.Names.{Name}
 use Rattle.fs_names.specs.declared.limits.Limits.{Limits}
-use Rattle.fs_slab.specs.code.Slots.{Slots, Sets, HaveForm, KeepsForm}
-use Rattle.fs_slab.specs.declared.nodes.Entry.{Entry}
-use Rattle.fs_slab.proofs.FormLemmas.{form_set, form_edit}
+use Rattle.fs_seq_nodes.specs.code.Slots.{Slots, Sets, HaveForm, KeepsForm}
+use Rattle.fs_seq_nodes.specs.declared.nodes.Entry.{Entry}
+use Rattle.fs_seq_nodes.proofs.FormLemmas.{form_set, form_edit}
 use Rattle.fs_seq.specs.code.Effects.{Detaches}
 use Rattle.fs_seq.specs.code.Renaming.{Displaces, Transfers}
 

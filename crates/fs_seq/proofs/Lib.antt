@@ -18,3 +18,10 @@ pub mod Looked
 pub mod Written
 pub mod Root
 pub mod KeptForms
+pub mod Ahead
+pub mod RisingLemmas
+pub mod Walked
+pub mod Appended
+pub mod Listed
+pub mod Fitting
+pub mod PlainReplies

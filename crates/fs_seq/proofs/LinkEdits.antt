@@ -8,9 +8,9 @@ use Rattle.std.proofs.lemmas.Cmp.{tied_itself}
 use Rattle.std.proofs.lemmas.Float.{T_from_true}
 use Rattle.fs_names.specs.Names.{Name, name_cmp}
 use Rattle.fs_names.proofs.Lemmas.{name_total}
-use Rattle.fs_slab.specs.code.Nodes.{name_of, without, IsNameAt}
+use Rattle.fs_seq_nodes.specs.code.Nodes.{name_of, without, IsNameAt}
 use Rattle.fs_seq.proofs.Rewiring.{without-put}
-use Rattle.fs_slab.proofs.SearchLemmas.{both_first, both_second, is_less}
+use Rattle.fs_seq_nodes.proofs.SearchLemmas.{both_first, both_second, is_less}
 
 -- a name below all is below the one at a place
 below_named : (y x : Name) (links : List (Name × ℕ)) (i : ℕ) → T (below_all name_cmp y links) → name_of (slice_get links i) ≡ Some x → name_cmp y x ≡ Less

@@ -4,8 +4,8 @@ use Rattle.std.specs.Prelude.{nat_lt}
 use Rattle.std.proofs.Common.{◌≡◌, ℕ, zero, suc, Bool, true, false, Option, ◌≤◌, ◌<◌, ◌++◌, get_or, arith, List, [], ◌∷◌, length, take, map, Some, None, refl, sym, ap, ◌∙◌}
 use Rattle.fs_names.specs.Keys.{Key}
 use Rattle.fs_names.specs.declared.limits.Limits.{Limits}
-use Rattle.fs_slab.specs.declared.nodes.Link.{Link}
-use Rattle.fs_slab.specs.code.Nodes.{pairs}
+use Rattle.fs_seq_nodes.specs.declared.nodes.Link.{Link}
+use Rattle.fs_seq_nodes.specs.code.Nodes.{pairs}
 use Rattle.fs_calls.specs.declared.call.Call.{Call}
 use Rattle.fs_calls.specs.declared.errno.Errno.{Errno}
 use Rattle.fs_calls.specs.declared.errno.Errno.TheVariants.{Eoverflow}
@@ -18,11 +18,11 @@ use Rattle.fs_names.specs.Failures.{check, or_else}
 use Rattle.fs_names.specs.Shapes.{Shape, Dir, File}
 use Rattle.fs_names.specs.declared.limits.TheConstants.{LIST_LIMIT}
 use Rattle.fs_calls.specs.Rows.{node_fault, node_reply}
-use Rattle.fs_slab.specs.code.Slots as places
-use Rattle.fs_slab.specs.code.Slots.{Place, Slots, place_at, links_of, shape_of, walk, tree_of, IsForest}
+use Rattle.fs_seq_nodes.specs.code.Slots as places
+use Rattle.fs_seq_nodes.specs.code.Slots.{Place, Slots, place_at, links_of, shape_of, walk, tree_of, IsForest}
 use Rattle.fs_seq.specs.code.Effects.{IsFound, node_error}
-use Rattle.fs_slab.proofs.NodeLemmas.{rising_got}
-use Rattle.fs_slab.proofs.Resolving.{resolution_walked, seen_at}
+use Rattle.fs_seq_nodes.proofs.NodeLemmas.{rising_got}
+use Rattle.fs_seq_nodes.proofs.Resolving.{resolution_walked, seen_at}
 
 -- the first error of a call on a node whose path leads nowhere
 pub lost_error : (t : Tree) (c : NodeCall) (p : Key) (e : Errno) → resolution t p ≡ Some e → node_error t c p ≡ Some e

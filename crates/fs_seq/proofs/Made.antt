@@ -5,17 +5,16 @@ use Rattle.std.specs.FinMap.{put}
 use Rattle.fs_names.specs.Names.{Name, name_cmp}
 use Rattle.fs_names.specs.Keys.{Key, parent_of, last_of}
 use Rattle.fs_names.specs.declared.limits.Limits.{Limits}
-use Rattle.fs_calls.specs.Tree.{inserted}
+use Rattle.fs_calls.specs.Tree.{inserted, Tree}
 use Rattle.fs_calls.specs.Outcomes.{fault}
 use Rattle.fs_calls.specs.declared.call.Call.TheVariants.{Mkdir, Mknod}
 use Rattle.fs_calls.specs.declared.reply.Reply.TheVariants.{Done}
-use Rattle.fs_slab.specs.declared.nodes.Node.TheVariants as nodes
-use Rattle.fs_calls.specs.Tree.{Tree}
-use Rattle.fs_slab.specs.code.Slots.{Dir, Slots, links_of, links_at, tree_of, IsForest, Sets, Attaches}
-use Rattle.fs_slab.specs.code.Nodes.{place, tree_node}
+use Rattle.fs_seq_nodes.specs.declared.nodes.Node.TheVariants as nodes
+use Rattle.fs_seq_nodes.specs.code.Slots.{Dir, Slots, links_of, links_at, tree_of, IsForest, Sets, Attaches}
+use Rattle.fs_seq_nodes.specs.code.Nodes.{place, tree_node}
 use Rattle.fs_seq.specs.code.Effects.{making_fault, IsGap, Gives}
-use Rattle.fs_slab.proofs.NodeLemmas.{parent_and_last, last_got, node_place}
-use Rattle.fs_slab.proofs.GraphMade.{forest_made, tree_made}
+use Rattle.fs_seq_nodes.proofs.NodeLemmas.{parent_and_last, last_got, node_place}
+use Rattle.fs_seq_nodes.proofs.GraphMade.{forest_made, tree_made}
 use Rattle.fs_seq.proofs.Replies.{works}
 
 -- the errors of both calls are those of making a node

@@ -5,10 +5,10 @@ use Rattle.fs_names.specs.Names.{Name, name_cmp}
 use Rattle.fs_names.specs.Keys.{Key, after_prefix}
 use Rattle.fs_names.proofs.Lemmas.{after_prefix-append, after_prefix-exact}
 use Rattle.fs_calls.specs.Tree.{look, renamed}
-use Rattle.fs_slab.specs.code.Slots.{Place, Dir, File, Slots, place_at, node_of, links_at, child, walk_from, walk, node_at, spelled, tree_of, IsForest}
-use Rattle.fs_slab.proofs.GraphLemmas.{walk-append, Once, look-tree_of, is_tree_of}
-use Rattle.fs_slab.proofs.Edits.{Unlinks, Links, outside, within, walk-unlinked, walk-linked}
-use Rattle.fs_slab.proofs.Resolving.{spelled_at, spelled_none}
+use Rattle.fs_seq_nodes.specs.code.Slots.{Place, Dir, File, Slots, place_at, node_of, links_at, child, walk_from, walk, node_at, spelled, tree_of, IsForest}
+use Rattle.fs_seq_nodes.proofs.GraphLemmas.{walk-append, Once, look-tree_of, is_tree_of}
+use Rattle.fs_seq_nodes.proofs.Edits.{Unlinks, Links, outside, within, walk-unlinked, walk-linked}
+use Rattle.fs_seq_nodes.proofs.Resolving.{spelled_at, spelled_none}
 use Rattle.fs_calls.proofs.KeyLemmas.{after_prefix-itself}
 use Rattle.fs_calls.proofs.RenamedTrees.{after_move, look-renamed, sorted-renamed}
 

@@ -3,8 +3,8 @@ use Rattle.std.proofs.Common.{◌≡◌, ℕ, zero, suc, ◌+◌, ◌-◌, ◌<�
 use Rattle.std.proofs.lemmas.List.{take-map, length-map}
 use Rattle.fs_names.specs.Names.{Name}
 use Rattle.fs_calls.specs.Sights.{has_any}
-use Rattle.fs_slab.specs.declared.nodes.Link.{Link}
-use Rattle.fs_slab.specs.code.Nodes.{pair, pairs}
+use Rattle.fs_seq_nodes.specs.declared.nodes.Link.{Link}
+use Rattle.fs_seq_nodes.specs.code.Nodes.{pair, pairs}
 
 -- a part and the next one
 take_both : {A : Type 0} (xs : List A) (a b : ℕ) → take a xs ++ take b (drop a xs) ≡ take (a + b) xs

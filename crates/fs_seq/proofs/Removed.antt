@@ -14,22 +14,22 @@ use Rattle.fs_calls.specs.declared.target.EntryCall.{EntryCall}
 use Rattle.fs_calls.specs.declared.target.EntryCall.TheVariants as entries
 use Rattle.fs_calls.specs.declared.target.EntryCall.TheVariants.{Mkdir, Mknod}
 use Rattle.fs_calls.specs.Rows.{entry_errors, entry_fault}
-use Rattle.fs_slab.specs.declared.nodes.Spot.{Spot}
+use Rattle.fs_seq_nodes.specs.declared.nodes.Spot.{Spot}
 use Rattle.fs_calls.specs.declared.call.Call.{Call}
 use Rattle.fs_calls.specs.declared.call.Call.TheVariants.{Unlink, Rmdir}
 use Rattle.fs_calls.specs.declared.errno.Errno.{Errno}
 use Rattle.fs_calls.specs.declared.errno.Errno.TheVariants.{Eperm, Ebusy}
 use Rattle.fs_calls.specs.declared.reply.Reply.TheVariants.{Done, Failed}
 use Rattle.fs_calls.specs.Tree.{Tree, removed}
-use Rattle.fs_slab.specs.declared.nodes.Node.{Node}
+use Rattle.fs_seq_nodes.specs.declared.nodes.Node.{Node}
 use Rattle.fs_calls.specs.Sights.{Shape, tree_shapes}
 use Rattle.fs_calls.proofs.RowNames.{unlinking, removing}
 use Rattle.fs_calls.specs.Outcomes.{fault, success, change, parents_resolution}
-use Rattle.fs_slab.specs.code.Slots.{Place, Dir, File, Slots, links_at, links_of, shape_of, child, tree_of, IsForest, Sets}
-use Rattle.fs_slab.specs.code.Nodes.{graph, LooksUp, shape_there, without}
+use Rattle.fs_seq_nodes.specs.code.Slots.{Place, Dir, File, Slots, links_at, links_of, shape_of, child, tree_of, IsForest, Sets}
+use Rattle.fs_seq_nodes.specs.code.Nodes.{graph, LooksUp, shape_there, without}
 use Rattle.fs_seq.specs.code.Effects.{IsVictim, Detaches, Answers, HasFault, call_on}
-use Rattle.fs_slab.proofs.NodeLemmas.{parent_and_last, child_got}
-use Rattle.fs_slab.proofs.SlabLemmas.{sets_slot}
+use Rattle.fs_seq_nodes.proofs.NodeLemmas.{parent_and_last, child_got}
+use Rattle.fs_seq_nodes.proofs.SlabLemmas.{sets_slot}
 use Rattle.fs_seq.proofs.Spots.{not_root, root, spot_parents, spot_seen}
 use Rattle.fs_seq.proofs.GraphCut.{forest_cut, tree_cut}
 use Rattle.fs_seq.proofs.KeptForms.{form_detached}

@@ -9,24 +9,23 @@ use Rattle.fs_names.specs.Keys.{Key, is_root, is_proper_prefix, parent_of, last_
 use Rattle.fs_names.proofs.FailureLemmas.{check-none}
 use Rattle.fs_names.specs.declared.limits.Limits.{Limits}
 use Rattle.fs_calls.specs.Tree.{Tree}
-use Rattle.fs_calls.specs.Sights.{Shape, tree_shapes, is_missing, is_file, is_dir, has_entries}
+use Rattle.fs_calls.specs.Sights.{Shape, tree_shapes, is_missing, is_file, is_dir, has_entries, is_same}
 use Rattle.fs_calls.specs.Forms.{AtPair, by_text}
 use Rattle.fs_calls.specs.Forms as pairs
-use Rattle.fs_calls.specs.Sights.{is_same}
 use Rattle.fs_calls.specs.Rows.{has_room, place_fault, rename_errors, rename_fault}
 use Rattle.fs_calls.specs.Outcomes.{parents_resolution, row}
-use Rattle.fs_slab.specs.code.Slots.{Place, Dir, File, Slots, place_at, shape_of, links_at, walk, shape_at, tree_of, IsForest}
-use Rattle.fs_slab.specs.code.Nodes.{IsTaken, IsFree, LooksUp}
-use Rattle.fs_slab.specs.declared.nodes.Spot.{Spot}
-use Rattle.fs_slab.specs.declared.nodes.Spot.TheVariants.{Taken, Free}
+use Rattle.fs_seq_nodes.specs.code.Slots.{Place, Dir, File, Slots, place_at, shape_of, links_at, walk, shape_at, tree_of, IsForest}
+use Rattle.fs_seq_nodes.specs.code.Nodes.{IsTaken, IsFree, LooksUp}
+use Rattle.fs_seq_nodes.specs.declared.nodes.Spot.{Spot}
+use Rattle.fs_seq_nodes.specs.declared.nodes.Spot.TheVariants.{Taken, Free}
 use Rattle.fs_seq.specs.code.Effects.{HasFaultBy}
 use Rattle.fs_seq.specs.code.Renaming.{Moves}
 use Rattle.fs_calls.specs.declared.call.Call.TheVariants.{Rename}
 use Rattle.fs_calls.specs.declared.errno.Errno.{Errno}
 use Rattle.fs_calls.specs.declared.errno.Errno.TheVariants.{Enoent, Enotdir, Eisdir, Enotempty, Einval, Ebusy, Enospc}
 use Rattle.fs_calls.proofs.KeyLemmas.{no_true, never_same, is_same_refl, is_same_exact, parent_and_last}
-use Rattle.fs_slab.proofs.Resolving.{walk_on, walk_off, seen_at, seen_none, child-find}
-use Rattle.fs_slab.proofs.Parents.{parents_found}
+use Rattle.fs_seq_nodes.proofs.Resolving.{walk_on, walk_off, seen_at, seen_none, child-find}
+use Rattle.fs_seq_nodes.proofs.Parents.{parents_found}
 use Rattle.fs_seq.proofs.Replies.{fault_by_row}
 use Rattle.fs_calls.proofs.FaultLemmas.{all_none, or_first, or_second}
 

@@ -7,24 +7,23 @@ use Rattle.fs_names.specs.Names.{Name, name_cmp, same_name, is_long}
 use Rattle.fs_names.specs.declared.limits.Limits.{Limits}
 use Rattle.fs_names.specs.Keys.{Key, parent_of, last_of}
 use Rattle.fs_calls.specs.Tree.{Tree, renamed, Dir as IsDir}
-use Rattle.fs_calls.specs.Sights.{is_missing}
+use Rattle.fs_calls.specs.Sights.{is_missing, is_same}
 use Rattle.fs_calls.specs.Forms.{AtPair, by_text}
 use Rattle.fs_calls.specs.Forms as pairs
 use Rattle.fs_calls.specs.Outcomes.{change}
 use Rattle.fs_seq.specs.Memory.{needs_memory}
-use Rattle.fs_slab.specs.code.Slots.{Dir, Slots, place_at, node_of, links_of, links_at, walk, node_at, tree_of, IsForest, Sets, KeepsForm}
-use Rattle.fs_slab.specs.code.Nodes.{without, IsNameAt, IsTaken, IsFree, IsAt}
+use Rattle.fs_seq_nodes.specs.code.Slots.{Dir, Slots, place_at, node_of, links_of, links_at, walk, node_at, tree_of, IsForest, Sets, KeepsForm}
+use Rattle.fs_seq_nodes.specs.code.Nodes.{without, IsNameAt, IsTaken, IsFree, IsAt}
 use Rattle.fs_seq.specs.code.Effects.{AnswersWithin, HasFaultBy}
 use Rattle.fs_seq.specs.code.Renaming.{Moves, Plans, Displaces, Transfers}
-use Rattle.fs_slab.specs.declared.nodes.Entry.{Entry}
+use Rattle.fs_seq_nodes.specs.declared.nodes.Entry.{Entry}
 use Rattle.fs_seq.specs.declared.rename.Plan.{Plan}
 use Rattle.fs_seq.specs.declared.rename.Plan.TheVariants.{Stay, Onto, Within, Across}
 use Rattle.fs_calls.specs.declared.call.Call.TheVariants.{Rename}
 use Rattle.fs_calls.specs.declared.reply.Reply.TheVariants.{Done, Failed}
 use Rattle.fs_calls.specs.declared.errno.Errno.{Errno}
-use Rattle.fs_calls.specs.Sights.{is_same}
 use Rattle.fs_calls.proofs.KeyLemmas.{never_same, is_same_refl}
-use Rattle.fs_slab.proofs.Resolving.{seen_none}
+use Rattle.fs_seq_nodes.proofs.Resolving.{seen_none}
 use Rattle.fs_calls.proofs.FaultLemmas.{Renames, by_text_none, rename_renames}
 use Rattle.fs_seq.proofs.ForestTrees.{forest_tree}
 use Rattle.fs_seq.proofs.Rewiring.{Crosses, Turns, Rewires, which, crossed, turned_in, renamed_free, renamed_onto, find-without, rising-without, other_last}
@@ -32,7 +31,7 @@ use Rattle.fs_seq.proofs.LinkEdits.{set_in_place, set_then_removed}
 use Rattle.fs_seq.proofs.RenameFaults.{new_named, taken_walk, free_walk}
 use Rattle.fs_seq.proofs.Spots.{has_names}
 use Rattle.fs_seq.proofs.KeptForms.{form_displaced, form_transferred}
-use Rattle.fs_slab.proofs.FormLemmas.{form_edit}
+use Rattle.fs_seq_nodes.proofs.FormLemmas.{form_edit}
 use Rattle.fs_seq.proofs.Replies.{works, fails, answers, needs}
 
 -- ---- replies

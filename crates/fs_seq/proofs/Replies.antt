@@ -7,7 +7,7 @@ use Rattle.fs_calls.specs.Tree.{Tree}
 use Rattle.fs_calls.specs.Forms.{form, by_text}
 use Rattle.fs_calls.specs.Outcomes.{row, fault, success, change, reply, after, replied, if_sound}
 use Rattle.fs_seq.specs.Memory.{takes_memory, needs_memory}
-use Rattle.fs_slab.specs.code.Slots.{Slots, tree_of, IsForest, KeepsForm}
+use Rattle.fs_seq_nodes.specs.code.Slots.{Slots, tree_of, IsForest, KeepsForm}
 use Rattle.fs_seq.specs.code.Effects.{Gives, AnswersWithin, Answers}
 use Rattle.fs_calls.specs.declared.call.Call.{Call}
 use Rattle.fs_calls.specs.declared.reply.Reply.{Reply}

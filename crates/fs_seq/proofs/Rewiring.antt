@@ -9,12 +9,12 @@ use Rattle.fs_names.specs.Names.{Name, name_cmp, same_name}
 use Rattle.fs_names.specs.Keys.{Key, after_prefix, is_root, parent_of, last_of}
 use Rattle.fs_names.proofs.Lemmas.{name_total, name_exact, same_name_exact}
 use Rattle.fs_calls.specs.Tree.{Dir as IsDir, look, renamed}
-use Rattle.fs_slab.specs.code.Slots.{Place, Dir, Slots, place_at, links_of, node_of, links_at, child, walk, node_at, tree_of, IsForest, Sets}
-use Rattle.fs_slab.specs.code.Nodes.{without}
+use Rattle.fs_seq_nodes.specs.code.Slots.{Place, Dir, Slots, place_at, links_of, node_of, links_at, child, walk, node_at, tree_of, IsForest, Sets}
+use Rattle.fs_seq_nodes.specs.code.Nodes.{without}
 use Rattle.fs_calls.proofs.KeyLemmas.{no_true, parent_and_last, after_prefix-front}
-use Rattle.fs_slab.proofs.GraphLemmas.{place_below}
-use Rattle.fs_slab.proofs.Edits.{Unlinks, Links, nat_same, nat_differ}
-use Rattle.fs_slab.proofs.Resolving.{walk_on, look_some, child-find}
+use Rattle.fs_seq_nodes.proofs.GraphLemmas.{place_below}
+use Rattle.fs_seq_nodes.proofs.Edits.{Unlinks, Links, nat_same, nat_differ}
+use Rattle.fs_seq_nodes.proofs.Resolving.{walk_on, look_some, child-find}
 use Rattle.fs_calls.proofs.FaultLemmas.{Renames}
 use Rattle.fs_seq.proofs.Moving.{Relinks, reached_before, forest_moved, tree_moved}
 

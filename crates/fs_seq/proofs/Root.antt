@@ -4,16 +4,16 @@ use Rattle.std.specs.FinMap.{find, is_sorted}
 use Rattle.fs_names.specs.Names.{Name, name_cmp}
 use Rattle.fs_names.specs.Keys.{Key}
 use Rattle.fs_calls.specs.Tree.{look, root_tree}
-use Rattle.fs_slab.specs.code.Slots.{Dir, Slots, place_at, node_of, links_at, child, walk_from, walk, spelled, tree_of, IsForest, HasForm, HaveForm}
-use Rattle.fs_slab.proofs.GraphLemmas.{is_tree_of}
-use Rattle.fs_slab.proofs.Edits.{nat_same, nat_differ}
-use Rattle.fs_slab.proofs.Resolving.{spelled_at, spelled_none}
+use Rattle.fs_seq_nodes.specs.code.Slots.{Dir, Slots, place_at, node_of, links_at, child, walk_from, walk, spelled, tree_of, IsForest, HasForm, HaveForm}
+use Rattle.fs_seq_nodes.proofs.GraphLemmas.{is_tree_of}
+use Rattle.fs_seq_nodes.proofs.Edits.{nat_same, nat_differ}
+use Rattle.fs_seq_nodes.proofs.Resolving.{spelled_at, spelled_none}
 use Rattle.slab.specs.Slab.{Slab, Updates}
-use Rattle.fs_slab.specs.declared.nodes.Link.{Link}
-use Rattle.fs_slab.specs.declared.nodes.Node.TheVariants as nodes
-use Rattle.fs_slab.specs.code.Nodes.{graph, pairs, slot_place}
-use Rattle.fs_slab.proofs.SlabLemmas.{sets_slot}
-use Rattle.fs_slab.proofs.NodeLemmas.{child_got, links_got}
+use Rattle.fs_seq_nodes.specs.declared.nodes.Link.{Link}
+use Rattle.fs_seq_nodes.specs.declared.nodes.Node.TheVariants as nodes
+use Rattle.fs_seq_nodes.specs.code.Nodes.{graph, pairs, slot_place}
+use Rattle.fs_seq_nodes.proofs.SlabLemmas.{sets_slot}
+use Rattle.fs_seq_nodes.proofs.NodeLemmas.{child_got, links_got}
 
 module _ (g : Slots) (root : place_at g 0 ≡ Some (Dir [])) (others : (j : ℕ) → j ≢ 0 → place_at g j ≡ None) where
   -- there are no links

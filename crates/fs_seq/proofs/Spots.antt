@@ -16,15 +16,15 @@ use Rattle.fs_calls.specs.Tree.{Tree}
 use Rattle.fs_calls.specs.Sights.{Shape, tree_shapes, is_there, is_full}
 use Rattle.fs_calls.specs.Outcomes.{parents_resolution}
 use Rattle.slab.specs.Slab.{Slab, ContainsKey}
-use Rattle.fs_slab.specs.declared.nodes.Node.{Node}
-use Rattle.fs_slab.specs.declared.nodes.Spot.{Spot}
-use Rattle.fs_slab.specs.declared.nodes.Spot.TheVariants.{Taken, Free}
-use Rattle.fs_slab.specs.code.Slots.{Place, Dir, File, Slots, links_at, walk, tree_of, shape_of, shape_at, IsForest}
-use Rattle.fs_slab.specs.code.Nodes.{graph, IsTaken, IsFree, LooksUp, number_there, shape_there, place_there, full_there}
+use Rattle.fs_seq_nodes.specs.declared.nodes.Node.{Node}
+use Rattle.fs_seq_nodes.specs.declared.nodes.Spot.{Spot}
+use Rattle.fs_seq_nodes.specs.declared.nodes.Spot.TheVariants.{Taken, Free}
+use Rattle.fs_seq_nodes.specs.code.Slots.{Place, Dir, File, Slots, links_at, walk, tree_of, shape_of, shape_at, IsForest}
+use Rattle.fs_seq_nodes.specs.code.Nodes.{graph, IsTaken, IsFree, LooksUp, number_there, shape_there, place_there, full_there}
 use Rattle.fs_seq.specs.code.Effects.{making_fault, IsGap}
-use Rattle.fs_slab.proofs.Resolving.{walk_on, walk_off, seen_at, seen_none}
-use Rattle.fs_slab.proofs.NodeLemmas.{parent_and_last, child_got, has_key}
-use Rattle.fs_slab.proofs.Parents.{parents_found}
+use Rattle.fs_seq_nodes.proofs.Resolving.{walk_on, walk_off, seen_at, seen_none}
+use Rattle.fs_seq_nodes.proofs.NodeLemmas.{parent_and_last, child_got, has_key}
+use Rattle.fs_seq_nodes.proofs.Parents.{parents_found}
 
 -- a path with a name is not the root
 pub not_root : (p : Key) → 0 < length p → is_root p ≡ false

@@ -9,11 +9,11 @@ use Rattle.fs_calls.proofs.LookLemmas.{same_key_exact, same_key_refl}
 use Rattle.fs_calls.proofs.ListLemmas.{by_last, longer, after_prefix-snoc, same_key-snoc, same_front}
 use Rattle.fs_calls.proofs.KeyLemmas.{after_prefix-front}
 use Rattle.fs_calls.proofs.ExchangedTrees.{Beside, exchanged-first, exchanged-second, exchanged-other, exchanged-twice, look-exchanged, sorted-exchanged}
-use Rattle.fs_slab.specs.code.Slots.{Slots, links_at, child, walk, node_at, spelled, place_at, tree_of, IsForest}
-use Rattle.fs_slab.proofs.GraphLemmas.{Once, look-tree_of, is_tree_of}
-use Rattle.fs_slab.proofs.Edits.{on_from, on_some, walk-snoc, same_step, after_prefix-nothing}
+use Rattle.fs_seq_nodes.specs.code.Slots.{Slots, links_at, child, walk, node_at, spelled, place_at, tree_of, IsForest}
+use Rattle.fs_seq_nodes.proofs.GraphLemmas.{Once, look-tree_of, is_tree_of}
+use Rattle.fs_seq_nodes.proofs.Edits.{on_from, on_some, walk-snoc, same_step, after_prefix-nothing}
 use Rattle.fs_seq.proofs.Moving.{no_nil, placed}
-use Rattle.fs_slab.proofs.Resolving.{spelled_at, spelled_none, walk_on}
+use Rattle.fs_seq_nodes.proofs.Resolving.{spelled_at, spelled_none, walk_on}
 
 -- g' is g, but that the names x1 of n1 and x2 of n2, which lead to s1 and s2, lead to s2 and s1
 pub record Turned (g g' : Slots) (n1 : ℕ) (x1 : Name) (s1 n2 : ℕ) (x2 : Name) (s2 : ℕ) : Type 0 where

@@ -18,18 +18,18 @@ use Rattle.fs_calls.specs.Outcomes.{fault, reply, reply_of, after, change_of, re
 use Rattle.fs_calls.specs.Rows.{node_fault, node_reply, new_bytes, node_row, answered}
 use Rattle.fs_calls.proofs.RowNames.{on_dir}
 use Rattle.fs_seq.specs.Memory.{needs_memory}
-use Rattle.fs_slab.specs.declared.nodes.Node.{Node}
-use Rattle.fs_slab.specs.code.Slots.{Place, Dir, File, shape_of, walk, tree_of, IsForest, HasForm, KeepsForm}
-use Rattle.fs_slab.specs.code.Nodes.{place, graph}
+use Rattle.fs_seq_nodes.specs.declared.nodes.Node.{Node}
+use Rattle.fs_seq_nodes.specs.code.Slots.{Place, Dir, File, shape_of, walk, tree_of, IsForest, HasForm, KeepsForm}
+use Rattle.fs_seq_nodes.specs.code.Nodes.{place, graph}
 use Rattle.fs_seq.specs.code.Effects.{AnswersWithin, Rewrites, refilled}
-use Rattle.fs_slab.proofs.NodeLemmas.{place_got}
-use Rattle.fs_slab.proofs.SlabLemmas.{sets_value, same_graph}
-use Rattle.fs_slab.proofs.FormLemmas.{form_set}
+use Rattle.fs_seq_nodes.proofs.NodeLemmas.{place_got}
+use Rattle.fs_seq_nodes.proofs.SlabLemmas.{sets_value, same_graph}
+use Rattle.fs_seq_nodes.proofs.FormLemmas.{form_set}
 use Rattle.fs_seq.proofs.KeptForms.{form_same}
 use Rattle.fs_seq.proofs.GraphFilled.{forest_filled, tree_filled}
 use Rattle.fs_seq.proofs.Looked.{error_there, looking_fault}
 use Rattle.fs_seq.proofs.Replies.{needs}
-use Rattle.fs_slab.proofs.Resolving.{seen_at}
+use Rattle.fs_seq_nodes.proofs.Resolving.{seen_at}
 
 -- what is replied by an error or by none is the row's reply
 row_reply : (found : Option Errno) (well : Reply) (bytes : Option (List ℕ)) → (answered found None well bytes).0 ≡ replied found well

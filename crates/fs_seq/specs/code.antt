@@ -2,3 +2,5 @@
 pub mod Effects
 pub mod Renaming
 pub mod Exchanging
+pub mod Walks
+pub mod Added

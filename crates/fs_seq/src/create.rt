@@ -3,8 +3,8 @@
 ghost use Rattle.std.specs.Prelude.{◌≡◌, ◌≢◌, Some, None, [], IfOk, OnOk, OnErr, IsTrue};
 ghost use Rattle.fs_names.specs.Limits.{in_blocks};
 ghost use Rattle.fs_calls.specs.Tree.{inserted};
-ghost use Rattle.fs_slab.specs.code.Nodes.{graph, place, tree_node};
-ghost use Rattle.fs_slab.specs.code.Slots.{IsForest, HasForm, KeepsForm, links_of, tree_of};
+ghost use Rattle.fs_seq_nodes.specs.code.Nodes.{graph, place, tree_node};
+ghost use Rattle.fs_seq_nodes.specs.code.Slots.{IsForest, HasForm, KeepsForm, links_of, tree_of};
 ghost use Rattle.fs_seq.specs.Memory.{needs_memory};
 ghost use Rattle.fs_seq.specs.code.Effects.{AnswersWithin, FindsGap, Gives, making_fault};
 
@@ -13,8 +13,8 @@ use fs_calls::path_errors::root_error;
 use fs_calls::{Call, EntryCall, Errno, Reply};
 use fs_memory::Memory;
 use fs_names::{Limits, Path};
-use fs_slab::nodes::{attach, look_up};
-use fs_slab::{Links, Node};
+use fs_seq_nodes::nodes::{attach, look_up};
+use fs_seq_nodes::{Links, Node};
 use slab::Slab;
 use std::alloc::{AllocError, Global};
 

@@ -1,8 +1,8 @@
 //! Exchanges: two entries lead to one another's nodes.
 
 ghost use Rattle.std.specs.Prelude.{◌≡◌, ◌<◌, Some, length};
-ghost use Rattle.fs_slab.specs.code.Nodes.{graph};
-ghost use Rattle.fs_slab.specs.code.Slots.{IsForest, place_at, links_at, Dir as IsDir};
+ghost use Rattle.fs_seq_nodes.specs.code.Nodes.{graph};
+ghost use Rattle.fs_seq_nodes.specs.code.Slots.{IsForest, place_at, links_at, Dir as IsDir};
 ghost use Rattle.fs_seq.specs.code.Exchanging.{FindsBoth, Leads, Swaps};
 ghost use Rattle.fs_seq.specs.code.Effects.{Answers};
 
@@ -10,8 +10,8 @@ use fs_calls::path_errors::exchange_error;
 use fs_calls::rows::PairSight;
 use fs_calls::{Call, Errno, PairCall, Reply};
 use fs_names::Path;
-use fs_slab::nodes::look_up;
-use fs_slab::{Entry, Node};
+use fs_seq_nodes::nodes::look_up;
+use fs_seq_nodes::{Entry, Node};
 use slab::Slab;
 
 /// The entries at both paths, or the first error of an exchange. Its row asks neither whether the paths are one nor for

@@ -10,16 +10,16 @@ ghost use Rattle.fs_names.specs.declared.limits.Limits.TheVariants.{V1};
 ghost use Rattle.fs_calls.specs.Outcomes.{reply};
 ghost use Rattle.fs_calls.specs.Sights.{has_any, bytes_of};
 ghost use Rattle.fs_calls.specs.code.Targets.{node_call};
-ghost use Rattle.fs_slab.specs.code.Nodes.{graph, pairs, place};
-ghost use Rattle.fs_slab.specs.code.Slots.{IsForest, links_of, shape_of, tree_of};
+ghost use Rattle.fs_seq_nodes.specs.code.Nodes.{graph, pairs, place};
+ghost use Rattle.fs_seq_nodes.specs.code.Slots.{IsForest, links_of, shape_of, tree_of};
 ghost use Rattle.fs_seq.specs.Memory.{needs_memory};
 ghost use Rattle.fs_seq.specs.code.Effects.{IsFound, NeedsMemory, node_error};
 
 use fs_calls::{Bytes, Call, Errno, NameList, NodeCall, Reply};
 use fs_memory::Memory;
 use fs_names::{Kind, LIST_LIMIT, Limits, NameRoom, Path};
-use fs_slab::nodes::resolve;
-use fs_slab::{Link, Node};
+use fs_seq_nodes::nodes::resolve;
+use fs_seq_nodes::{Link, Node};
 use slab::Slab;
 use std::alloc::{AllocError, Global};
 

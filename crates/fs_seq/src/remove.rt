@@ -4,15 +4,15 @@ ghost use Rattle.std.specs.Prelude.{◌≡◌, ◌<◌, Some, None, length};
 ghost use Rattle.fs_names.specs.declared.limits.Limits.TheVariants.{V1};
 ghost use Rattle.fs_calls.specs.Forms.{new_shape};
 ghost use Rattle.fs_calls.specs.code.Targets.{entry_call};
-ghost use Rattle.fs_slab.specs.code.Nodes.{graph};
-ghost use Rattle.fs_slab.specs.code.Slots.{IsForest, place_at, links_at, Dir as IsDir};
+ghost use Rattle.fs_seq_nodes.specs.code.Nodes.{graph};
+ghost use Rattle.fs_seq_nodes.specs.code.Slots.{IsForest, place_at, links_at, Dir as IsDir};
 ghost use Rattle.fs_seq.specs.code.Effects.{Answers, Detaches, call_on};
 
 use fs_calls::path_errors::root_error;
 use fs_calls::{Call, EntryCall, Reply};
 use fs_names::Path;
-use fs_slab::nodes::{look_up, remove_link};
-use fs_slab::{Node, Spot};
+use fs_seq_nodes::nodes::{look_up, remove_link};
+use fs_seq_nodes::{Node, Spot};
 use slab::Slab;
 
 /// Takes the entry at a place out of a directory, and its node, whose number is free from then on.

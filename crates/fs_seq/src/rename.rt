@@ -3,8 +3,8 @@
 ghost use Rattle.std.specs.Prelude.{◌≡◌, ◌≢◌, ◌<◌, ◌≤◌, Option, None, Some, IsTrue, IsSome, IfOk, OnOk, OnErr, length, remove, slice_get};
 ghost use Rattle.std.specs.FinMap.{find, put, is_sorted};
 ghost use Rattle.fs_names.specs.Names.{Name, name_cmp};
-ghost use Rattle.fs_slab.specs.code.Nodes.{graph, name_of};
-ghost use Rattle.fs_slab.specs.code.Slots.{IsForest, Sets, place_at, links_at, shape_at, tree_of, Dir as IsDir};
+ghost use Rattle.fs_seq_nodes.specs.code.Nodes.{graph, name_of};
+ghost use Rattle.fs_seq_nodes.specs.code.Slots.{IsForest, Sets, place_at, links_at, shape_at, tree_of, Dir as IsDir};
 ghost use Rattle.fs_calls.specs.Sights.{Shape};
 ghost use Rattle.fs_calls.specs.Rows.{place_fault};
 ghost use Rattle.fs_calls.specs.code.Seen.{sight};
@@ -19,8 +19,8 @@ use fs_calls::rows::PairSight;
 use fs_calls::{Call, Errno, PairCall, Reply, Sight, rename_error};
 use fs_memory::Memory;
 use fs_names::{Limits, Name, Path};
-use fs_slab::nodes::{add_link, look_up, remove_link, sight_of};
-use fs_slab::{Entry, HeldName, Link, Node, Spot};
+use fs_seq_nodes::nodes::{add_link, look_up, remove_link, sight_of};
+use fs_seq_nodes::{Entry, HeldName, Link, Node, Spot};
 use slab::Slab;
 use std::alloc::{AllocError, Global};
 

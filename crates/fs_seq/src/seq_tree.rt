@@ -6,16 +6,16 @@ ghost use Rattle.fs_calls.specs.Tree.{IsTree};
 ghost use Rattle.fs_calls.specs.Outcomes.{reply_at, called};
 ghost use Rattle.fs_seq.specs.Memory.{needs_memory};
 ghost use Rattle.fs_seq.specs.Looks.{is_look};
-ghost use Rattle.fs_rows.specs.Rows.{misfit, row_of, is_plain};
+ghost use Rattle.fs_seq.specs.Rows.{misfit, row_of, is_plain};
 ghost use Rattle.std.specs.List.{list_all};
 
+use crate::from_rows::{self, NotTree};
+use crate::rows::{self, Row};
 use crate::{create, exchange, queries, remove, rename, write};
 use fs_calls::{Call, Data, Reply};
 use fs_memory::Memory;
 use fs_names::{Limits, Path};
-use fs_rows::from_rows::{self, NotTree};
-use fs_rows::rows::{self, Row};
-use fs_slab::{Links, Node, copying};
+use fs_seq_nodes::{Links, Node, copying};
 use slab::Slab;
 use std::alloc::{AllocError, Global};
 use std::marker::Model;
@@ -32,8 +32,8 @@ impl Model for SeqTree {
 
     ghost Value = { Start };
 
-    ghost use Rattle.fs_slab.specs.code.Nodes.{graph};
-    ghost use Rattle.fs_slab.specs.code.Slots.{tree_of, IsForest, HaveForm};
+    ghost use Rattle.fs_seq_nodes.specs.code.Nodes.{graph};
+    ghost use Rattle.fs_seq_nodes.specs.code.Slots.{tree_of, IsForest, HaveForm};
     ghost use Rattle.fs_names.specs.Limits.{in_blocks};
 
     ghost view = { λ s. record { limits = s.limits; tree = tree_of (graph s.nodes) } };

@@ -6,8 +6,8 @@ ghost use Rattle.fs_calls.specs.Rows.{node_fault, written, resized};
 ghost use Rattle.fs_calls.specs.Sights.{has_any, bytes_of};
 ghost use Rattle.fs_calls.specs.Forms as calls;
 ghost use Rattle.fs_seq.specs.Memory.{needs_memory};
-ghost use Rattle.fs_slab.specs.code.Nodes.{graph, place};
-ghost use Rattle.fs_slab.specs.code.Slots.{IsForest, HasForm, HaveForm, shape_of, tree_of};
+ghost use Rattle.fs_seq_nodes.specs.code.Nodes.{graph, place};
+ghost use Rattle.fs_seq_nodes.specs.code.Slots.{IsForest, HasForm, HaveForm, shape_of, tree_of};
 ghost use Rattle.fs_seq.specs.code.Effects.{AnswersWithin, Rewrites, written_if_any};
 
 use fs_blocks::{File, Spare};
@@ -15,8 +15,8 @@ use fs_calls::ranges::put;
 use fs_calls::{Call, Data, NodeCall, Reply};
 use fs_memory::Memory;
 use fs_names::{Limits, Path};
-use fs_slab::Node;
-use fs_slab::nodes::resolve;
+use fs_seq_nodes::Node;
+use fs_seq_nodes::nodes::resolve;
 use slab::Slab;
 use std::alloc::{AllocError, Global};
 

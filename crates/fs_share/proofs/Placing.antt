@@ -12,8 +12,8 @@ use Rattle.fs_timeline.specs.declared.entry.Entry.{Entry}
 use Rattle.fs_timeline.specs.declared.entry.Entry.TheVariants.{Begin, Commit, Return}
 use Rattle.fs_timeline.proofs.TimelineLemmas.{append_nil}
 use Rattle.fs_timeline.proofs.AppendLemmas.{list_any-push, call_of-kept, commits-push, due-kept, begun_first}
-use Rattle.fs_index.specs.Index.{place_of}
-use Rattle.fs_observe.proofs.Fronts.{prefix_self, prefix_trans, prefix_get}
+use Rattle.fs_timeline.specs.Index.{place_of}
+use Rattle.fs_share_observe.proofs.Fronts.{prefix_self, prefix_trans, prefix_get}
 use Rattle.fs_share.specs.Boards.{IsListed}
 
 -- what each entry has, each of a beginning has

@@ -14,8 +14,8 @@ use Rattle.fs_machine.specs.declared.answers.Refusal.{Refusal}
 use Rattle.fs_machine.specs.declared.answers.Refusal.TheVariants.{OutOfMemory, Full, SeatBusy}
 use Rattle.fs_machine.specs.declared.answers.Stepped.{Stepped}
 use Rattle.fs_machine.specs.declared.answers.Stepped.TheVariants.{Idle, Took, Busy, LetGo, Helped, Committed, CarriedOut, Returned}
-use Rattle.fs_observe.specs.Lists.{Lists}
-use Rattle.fs_observe.proofs.Fronts.{prefix_self, prefix_trans, prefix_shorter, prefix_more, prefix_length}
+use Rattle.fs_share_observe.specs.Lists.{Lists}
+use Rattle.fs_share_observe.proofs.Fronts.{prefix_self, prefix_trans, prefix_shorter, prefix_more, prefix_length}
 use Rattle.fs_share.specs.Boards.{AreBeginnings}
 
 -- the same timeline, or one more entry

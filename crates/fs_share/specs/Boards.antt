@@ -7,7 +7,7 @@ use Rattle.fs_calls.specs.declared.call.Call.{Call}
 use Rattle.fs_calls.specs.declared.reply.Reply.{Reply}
 use Rattle.fs_timeline.specs.Timeline.{commits}
 use Rattle.fs_core.specs.CoreValues.{CoreValue, IsAtRest}
-use Rattle.fs_observe.specs.Lists.{Lists}
+use Rattle.fs_share_observe.specs.Lists.{Lists}
 
 -- the core, and the list that observers are shown
 pub record Boarded : Type 0 where

@@ -12,7 +12,7 @@ ghost use Rattle.fs_share.specs.Returns.{AllReturned};
 use crate::session::Tally;
 use crate::tree::{AtomFs, Closed};
 use fs_names::Limits;
-use fs_observe::{Named, Opened};
+use fs_share_observe::{Named, Opened};
 use std::alloc::{AllocError, Global};
 use std::marker::Brand;
 use std::sync::Wait;

@@ -18,7 +18,7 @@ use crate::tree::{AtomFs, Closed};
 use fs_calls::Call;
 use fs_core::Refusal;
 use fs_names::Limits;
-use fs_observe::{Named, Opened};
+use fs_share_observe::{Named, Opened};
 use std::alloc::Global;
 use std::marker::Brand;
 use std::sync::Wait;

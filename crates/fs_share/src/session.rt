@@ -9,7 +9,7 @@ use crate::tree::AtomFs;
 use fs_calls::{Call, Reply};
 use fs_core::{Refusal, Stepped};
 use fs_names::{CallNo, SeatNo};
-use fs_observe::{Named, Stamp};
+use fs_share_observe::{Named, Stamp};
 use std::alloc::Global;
 use std::sync::Wait;
 use std::sync::ledger::Share;

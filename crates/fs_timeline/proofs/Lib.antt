@@ -4,3 +4,4 @@ pub mod ReplyLemmas
 pub mod VerdictLemmas
 pub mod JournalStateLemmas
 pub mod KeptNames
+pub mod IndexLemmas

@@ -3,3 +3,5 @@ pub mod Verdicts
 pub mod JournalStates
 pub mod Laws
 pub mod Examples
+pub mod Index
+pub mod code

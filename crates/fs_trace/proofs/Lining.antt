@@ -7,11 +7,11 @@ use Rattle.std.proofs.lemmas.Grind.{flat_map-append}
 use Rattle.fs_machine.specs.States.{State}
 use Rattle.fs_script.specs.TreeText.{tree_text, AppendsTree}
 use Rattle.fs_sched.specs.RunTexts.{end_line}
-use Rattle.fs_story.specs.Shown.{deed_told, shown, Saying}
+use Rattle.fs_trace_story.specs.Shown.{deed_told, shown, Saying}
 use Rattle.fs_trace.specs.Traces.{AreLines, IsTraceText, line_head, thread_line}
 use Rattle.fs_trace.specs.code.LineTexts.{AddsLine, AddsLines, HasLines, IsTraceHead, IsTraceStart}
 use Rattle.fs_trace.specs.declared.trace_text.TraceLines.{TraceLines}
-use Rattle.fs_witness.specs.declared.moments.Moment.{Moment}
+use Rattle.fs_sched_witness.specs.declared.moments.Moment.{Moment}
 
 -- a trace has no lines where it begins
 pub lines_none : (lines : TraceLines) → HasLines lines lines []

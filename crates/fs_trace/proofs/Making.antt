@@ -10,10 +10,10 @@ use Rattle.fs_sched.specs.Moments.{TellsRun}
 use Rattle.fs_sched.specs.Runs.{Stage}
 use Rattle.fs_sched.specs.declared.schedule.Schedule.{Schedule}
 use Rattle.fs_sched.specs.declared.watching.Ran.{Ran}
-use Rattle.fs_story.specs.code.Waiting.{GoesOn, HasShown}
-use Rattle.fs_story.specs.declared.story.Teller.{Teller}
+use Rattle.fs_trace_story.specs.code.Waiting.{GoesOn, HasShown}
+use Rattle.fs_trace_story.specs.declared.story.Teller.{Teller}
 use Rattle.fs_trace.specs.Faults.{IsFaultOfSchedule}
-use Rattle.fs_story.specs.Shown.{Saying}
+use Rattle.fs_trace_story.specs.Shown.{Saying}
 use Rattle.fs_trace.specs.Objects.{AreObjectsOf, IsObjectText}
 use Rattle.fs_trace.specs.Traces.{IsTraceOf, IsTraceText}
 use Rattle.fs_trace.specs.code.LineTexts.{HasLines}
@@ -24,7 +24,7 @@ use Rattle.fs_trace.specs.declared.fault.ScheduleFault.TheVariants.{Run, TooMany
 use Rattle.fs_trace.specs.declared.objects.TraceObjects.{TraceObjects}
 use Rattle.fs_trace.specs.declared.trace_text.TraceLines.{TraceLines}
 use Rattle.fs_verdict.specs.declared.fault.RunFault.TheVariants as run
-use Rattle.fs_witness.specs.declared.moments.Moment.{Moment}
+use Rattle.fs_sched_witness.specs.declared.moments.Moment.{Moment}
 
 -- what a teller has shown of a run is what the run's moments are
 pub told_all : {P : Type 0} (has : P → P → List Saying → Type 0) (every : Bool) (schedule : Schedule) (script : Script) (start : P) (old new : Teller P) (ran : Ran) → HasShown has every start old []

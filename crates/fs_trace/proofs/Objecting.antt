@@ -4,19 +4,19 @@ use Rattle.std.specs.List.{flat_map}
 use Rattle.std.specs.Prelude.{codes}
 use Rattle.std.proofs.lemmas.Grind.{flat_map-append}
 use Rattle.fs_calls.specs.Tree.{Tree}
-use Rattle.fs_json.specs.Objects.{Member, Number, Text, object_text}
+use Rattle.fs_words.specs.JsonObjects.{Member, Number, Text, object_text}
 use Rattle.fs_machine.specs.States.{State}
 use Rattle.fs_script.specs.TreeText.{tree_text, IsSpelled}
 use Rattle.fs_sched.specs.RunTexts.{number_of}
 use Rattle.fs_sched.specs.code.Counts.{AreCounts}
 use Rattle.fs_sched.specs.declared.run_texts.Counts.{Counts}
 use Rattle.fs_sched.specs.declared.run_texts.EntryKind.TheVariants as kind
-use Rattle.fs_story.specs.Shown.{deed_told, shown, Saying}
+use Rattle.fs_trace_story.specs.Shown.{deed_told, shown, Saying}
 use Rattle.fs_trace.specs.Objects.{end_object, thread_object, told_members, AreObjects, IsObjectOf, IsObjectText}
 use Rattle.fs_trace.specs.code.ObjectTexts.{AddsObject, AddsObjects, AddsSome, HasObjects, IsObjectsStart}
 use Rattle.fs_timeline.specs.declared.entry.Entry.{Entry}
 use Rattle.fs_trace.specs.declared.objects.TraceObjects.{TraceObjects}
-use Rattle.fs_witness.specs.declared.moments.Moment.{Moment}
+use Rattle.fs_sched_witness.specs.declared.moments.Moment.{Moment}
 
 -- there are no objects where a trace begins
 pub objects_none : (page : TraceObjects) → HasObjects page page []

@@ -13,11 +13,11 @@ use Rattle.fs_script.specs.declared.script.Script.{Script}
 use Rattle.fs_script.specs.declared.script.Word.{Word}
 use Rattle.fs_script.specs.declared.script.Word.TheVariants as word
 use Rattle.fs_script.proofs.LimitLemmas.{keeps_limits}
-use Rattle.fs_witness.specs.Moments.{entries_of, entries_told}
-use Rattle.fs_witness.specs.declared.moments.Answer.{Answer}
-use Rattle.fs_witness.specs.declared.moments.Answer.TheVariants as answer
-use Rattle.fs_witness.specs.declared.moments.Moment.{Moment}
-use Rattle.fs_witness.specs.declared.moments.Moment.TheVariants as moment
+use Rattle.fs_sched_witness.specs.Moments.{entries_of, entries_told}
+use Rattle.fs_sched_witness.specs.declared.moments.Answer.{Answer}
+use Rattle.fs_sched_witness.specs.declared.moments.Answer.TheVariants as answer
+use Rattle.fs_sched_witness.specs.declared.moments.Moment.{Moment}
+use Rattle.fs_sched_witness.specs.declared.moments.Moment.TheVariants as moment
 use Rattle.fs_sched.specs.Gives.{given_words}
 use Rattle.fs_sched.specs.Moments as told
 use Rattle.fs_sched.specs.Moments.{AnswersEvent, IsMoment, AreMoments, word_of, AnswersToEnd, AnswersEnd, TellsRun}

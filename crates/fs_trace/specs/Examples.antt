@@ -4,9 +4,9 @@ use Prim.Native.String.{String}
 use Rattle.fs_names.specs.declared.limits.Limits.TheVariants.{V1}
 use Rattle.fs_script.specs.declared.script.Script.{Script}
 use Rattle.fs_script.specs.declared.script.Word.TheVariants.{Events, Finish}
-use Rattle.fs_witness.specs.Moments.{event_of, spent_of}
-use Rattle.fs_witness.specs.declared.moments.Answer.TheVariants.{Begun}
-use Rattle.fs_witness.specs.declared.moments.Moment.{Moment}
+use Rattle.fs_sched_witness.specs.Moments.{event_of, spent_of}
+use Rattle.fs_sched_witness.specs.declared.moments.Answer.TheVariants.{Begun}
+use Rattle.fs_sched_witness.specs.declared.moments.Moment.{Moment}
 use Rattle.fs_trace.specs.Traces.{busy_words, IsReadAs}
 
 -- a script of two threads

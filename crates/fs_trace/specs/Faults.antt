@@ -8,7 +8,7 @@ use Rattle.fs_sched.specs.Faults.{status_of_fault}
 use Rattle.fs_sched.specs.Moments.{TellsRun}
 use Rattle.fs_sched.specs.declared.schedule.Schedule.{Schedule}
 use Rattle.fs_sched.specs.Runs.{Stage, IsFaultOfRun}
-use Rattle.fs_witness.specs.declared.moments.Moment.{Moment}
+use Rattle.fs_sched_witness.specs.declared.moments.Moment.{Moment}
 use Rattle.fs_words.specs.Headers.{is_too_long}
 use Rattle.fs_trace.specs.Traces.{busy_words, IsScheduleOf}
 use Rattle.fs_trace.specs.declared.fault.ScheduleFault.{ScheduleFault}

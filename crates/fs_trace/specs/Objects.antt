@@ -2,7 +2,7 @@
 use Rattle.std.specs.Prelude.{ℕ, ◌≡◌, Bool, List, [], ◌∷◌, ◌++◌, map, get_or, Ok, Option, Some, None, codes}
 use Rattle.std.specs.List.{flat_map}
 use Rattle.fs_calls.specs.Tree.{Tree}
-use Rattle.fs_json.specs.Objects.{Member, Text, Number, object_text}
+use Rattle.fs_words.specs.JsonObjects.{Member, Text, Number, object_text}
 use Rattle.fs_machine.specs.States.{State}
 use Rattle.fs_script.specs.Script.{script_of}
 use Rattle.fs_script.specs.TreeText.{tree_text, IsSpelled}
@@ -13,12 +13,12 @@ use Rattle.fs_sched.specs.RunTexts.{number_of}
 use Rattle.fs_sched.specs.declared.run_texts.EntryKind.TheVariants as kind
 use Rattle.fs_sched.specs.declared.running.RunEnd.{RunEnd}
 use Rattle.fs_sched.specs.declared.schedule.Schedule.{Schedule}
-use Rattle.fs_story.specs.Shown.{deed_told, shown, Saying}
-use Rattle.fs_story.specs.declared.page.Deed.{Deed}
-use Rattle.fs_story.specs.declared.page.Deed.TheVariants as deed
+use Rattle.fs_trace_story.specs.Shown.{deed_told, shown, Saying}
+use Rattle.fs_trace_story.specs.declared.page.Deed.{Deed}
+use Rattle.fs_trace_story.specs.declared.page.Deed.TheVariants as deed
 use Rattle.fs_timeline.specs.declared.entry.Entry.{Entry}
-use Rattle.fs_witness.specs.Moments.{entries_told}
-use Rattle.fs_witness.specs.declared.moments.Moment.{Moment}
+use Rattle.fs_sched_witness.specs.Moments.{entries_told}
+use Rattle.fs_sched_witness.specs.declared.moments.Moment.{Moment}
 
 -- what a moment did, in words
 abbrev pub deed_word : Deed → List ℕ

@@ -14,16 +14,16 @@ use Rattle.fs_sched.specs.Schedules.{one_event}
 use Rattle.fs_sched.specs.declared.running.RunEnd.{RunEnd}
 use Rattle.fs_sched.specs.declared.schedule.Schedule.{Schedule}
 use Rattle.fs_sched.specs.declared.schedule.Schedule.TheVariants.{Given}
-use Rattle.fs_witness.specs.Moments.{entries_told}
+use Rattle.fs_sched_witness.specs.Moments.{entries_told}
 use Rattle.fs_sched.specs.Moments.{TellsRun}
 use Rattle.fs_sched.specs.Gives.{given_words}
-use Rattle.fs_story.specs.Shown.{shown, deed_told}
-use Rattle.fs_story.specs.declared.page.Deed.{Deed}
-use Rattle.fs_story.specs.declared.page.Deed.TheVariants as deed
-use Rattle.fs_witness.specs.declared.moments.Answer.{Answer}
-use Rattle.fs_witness.specs.declared.moments.Answer.TheVariants.{Spent}
-use Rattle.fs_witness.specs.declared.moments.Moment.{Moment}
-use Rattle.fs_witness.specs.declared.moments.Moment.TheVariants.{Event, Checkpoint}
+use Rattle.fs_trace_story.specs.Shown.{shown, deed_told}
+use Rattle.fs_trace_story.specs.declared.page.Deed.{Deed}
+use Rattle.fs_trace_story.specs.declared.page.Deed.TheVariants as deed
+use Rattle.fs_sched_witness.specs.declared.moments.Answer.{Answer}
+use Rattle.fs_sched_witness.specs.declared.moments.Answer.TheVariants.{Spent}
+use Rattle.fs_sched_witness.specs.declared.moments.Moment.{Moment}
+use Rattle.fs_sched_witness.specs.declared.moments.Moment.TheVariants.{Event, Checkpoint}
 
 -- the line of a thread
 abbrev pub thread_line : List ℕ → List ℕ

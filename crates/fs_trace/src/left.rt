@@ -1,7 +1,7 @@
 //! The calls that did not return.
 
 use fs_script::Script;
-use fs_story::Standing;
+use fs_trace_story::Standing;
 use std::alloc::{AllocError, Global};
 
 /// A call that did not return: the seat of its thread, its place among the calls of that, and whether it has begun.

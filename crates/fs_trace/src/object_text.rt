@@ -6,22 +6,21 @@ ghost use Rattle.fs_calls.specs.Tree.{Tree};
 ghost use Rattle.fs_sched.specs.code.Counts.{AreCounts};
 ghost use Rattle.fs_script.specs.TreeText.{tree_text, IsSpelled};
 ghost use Rattle.fs_timeline.specs.declared.entry.Entry.{Entry};
-ghost use Rattle.fs_story.specs.code.Waiting.{HasShown};
+ghost use Rattle.fs_trace_story.specs.code.Waiting.{HasShown};
 ghost use Rattle.fs_trace.specs.Objects.{end_object, IsObjectText};
 ghost use Rattle.fs_trace.specs.code.ObjectTexts.{AddsSome, HasObjects, IsObjectsStart};
-ghost use Rattle.fs_witness.specs.declared.moments.Moment.{Moment};
+ghost use Rattle.fs_sched_witness.specs.declared.moments.Moment.{Moment};
 
 use crate::left::{Left, left_in};
 use crate::objects::TraceObjects;
 use crate::script_text::name_of;
 use fs_calls::Call;
 use fs_core::Core;
-use fs_json::{Member, push_object};
 use fs_sched::{Counts, counts_of};
 use fs_script::{Script, write_tree};
-use fs_story::{Standing, Teller};
 use fs_text::write_call;
-use fs_words::Addition;
+use fs_trace_story::{Standing, Teller};
+use fs_words::{Addition, Member, push_object};
 use std::alloc::{AllocError, Global};
 
 /// A call as one word: its thread, and its place among the calls of that, counted from 1.

@@ -2,15 +2,14 @@
 
 ghost use Rattle.std.specs.Prelude.{◌≡◌, ◌++◌, IfOk, OnOk};
 ghost use Rattle.std.specs.List.{flat_map};
-ghost use Rattle.fs_story.specs.Shown.{deed_shown};
+ghost use Rattle.fs_trace_story.specs.Shown.{deed_shown};
 ghost use Rattle.fs_trace.specs.Objects.{deed_word, thread_object, told_members, whose};
 ghost use Rattle.fs_trace.specs.code.ObjectTexts.{AddsObject, HasObjects, IsObjectsStart};
 
 use crate::script_text::name_of;
-use fs_json::{Member, push_object};
 use fs_script::ThreadNames;
-use fs_story::{Deed, Line, Page, Part};
-use fs_words::Addition;
+use fs_trace_story::{Deed, Line, Page, Part};
+use fs_words::{Addition, Member, push_object};
 use std::alloc::{AllocError, Global};
 
 /// What a moment did, in words.

@@ -17,9 +17,9 @@ use crate::object_text::object_text;
 use crate::objects::TraceObjects;
 use crate::script_text::{RunWords, script_text};
 use crate::trace_text::{TraceLines, trace_text};
-use fs_io::{Made, Sink, Source, transform};
 use fs_sched::{RunEnd, RunFault, Schedule, between, script_in, watch};
-use fs_story::Teller;
+use fs_trace_story::Teller;
+use fs_verdict::{Made, Sink, Source, transform};
 use std::alloc::Global;
 
 /// The text of the trace of a script's run, and how that ended.

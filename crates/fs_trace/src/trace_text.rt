@@ -3,9 +3,9 @@
 ghost use Rattle.std.specs.Prelude.{◌≡◌, ◌++◌, [], Bool, List, IfOk, OnOk, map};
 ghost use Rattle.std.specs.List.{flat_map};
 ghost use Rattle.fs_core.specs.CoreValues.{state_of};
-ghost use Rattle.fs_witness.specs.declared.moments.Moment.{Moment};
-ghost use Rattle.fs_story.specs.Shown.{deed_shown, Tells};
-ghost use Rattle.fs_story.specs.code.Waiting.{HasShown};
+ghost use Rattle.fs_sched_witness.specs.declared.moments.Moment.{Moment};
+ghost use Rattle.fs_trace_story.specs.Shown.{deed_shown, Tells};
+ghost use Rattle.fs_trace_story.specs.code.Waiting.{HasShown};
 ghost use Rattle.fs_trace.specs.Traces.{head_of, line_head, thread_line, IsTraceText};
 ghost use Rattle.fs_trace.specs.code.LineTexts.{AddsLine, HasLines, IsTraceHead, IsTraceStart};
 
@@ -14,8 +14,8 @@ use crate::script_text::name_of;
 use fs_core::Core;
 use fs_sched::{counts_of, push_counts};
 use fs_script::{Script, ThreadNames, write_tree};
-use fs_story::{Deed, Line, Page, Standing, Story, Teller};
 use fs_text::write_call;
+use fs_trace_story::{Deed, Line, Page, Standing, Story, Teller};
 use fs_words::Addition;
 use std::alloc::{AllocError, Global};
 

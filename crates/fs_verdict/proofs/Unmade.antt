@@ -1,7 +1,7 @@
 -- The faults of runners between a reader and a writer.
 use Rattle.std.proofs.Common.{◌≡◌, ◌≢◌, refl, ap, sym, ◌∙◌, subst}
-use Rattle.fs_io.specs.declared.failure.Failure.{Failure}
-use Rattle.fs_io.specs.declared.failure.Failure.TheVariants as failure
+use Rattle.fs_verdict.specs.declared.failure.Failure.{Failure}
+use Rattle.fs_verdict.specs.declared.failure.Failure.TheVariants as failure
 use Rattle.fs_verdict.specs.Faults.{IsBetween}
 use Rattle.fs_verdict.specs.declared.fault.RunFault.{RunFault}
 use Rattle.fs_verdict.specs.declared.fault.RunFault.TheVariants.{Read, Write, OutOfMemory}

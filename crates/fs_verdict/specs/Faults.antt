@@ -3,8 +3,8 @@ use Rattle.std.specs.Prelude.{ℕ, ◌≡◌}
 use Rattle.fs_words.specs.declared.fault.ScriptFault.{ScriptFault}
 use Rattle.fs_words.specs.declared.fault.FaultKind.{FaultKind}
 use Rattle.fs_words.specs.declared.fault.FaultKind.TheVariants as kind
-use Rattle.fs_io.specs.declared.failure.Failure.{Failure}
-use Rattle.fs_io.specs.declared.failure.Failure.TheVariants as failure
+use Rattle.fs_verdict.specs.declared.failure.Failure.{Failure}
+use Rattle.fs_verdict.specs.declared.failure.Failure.TheVariants as failure
 use Rattle.fs_verdict.specs.declared.fault.RunFault.{RunFault}
 use Rattle.fs_verdict.specs.declared.fault.RunFault.TheVariants.{Input, Read, Write, OutOfMemory, Full, UnderWay}
 

@@ -1,4 +1,5 @@
 pub mod Faults
 pub mod Checks
+pub mod InputFaults
 pub mod Devices
 pub mod code

@@ -6,13 +6,15 @@ ghost use Rattle.fs_timeline.specs.Verdicts.{verdict};
 ghost use Rattle.fs_script.specs.Journals.{journal_of};
 ghost use Rattle.fs_words.specs.declared.fault.ScriptFault.{ScriptFault};
 ghost use Rattle.fs_verdict.specs.Checks.{is_lawful, verdict_line, verdict_of};
-ghost use Rattle.fs_verdict.specs.Devices.{IsFaultOf, KeepsDevices, WritesBeginningOf};
+ghost use Rattle.fs_verdict.specs.Devices.{KeepsDevices, WritesBeginningOf};
+ghost use Rattle.fs_verdict.specs.InputFaults.{IsFaultOf};
 ghost use Rattle.fs_verdict.specs.code.Judged.{IsAnswer, MakesVerdict};
 
+use crate::device::{Sink, Source};
 use crate::fault::{RunFault, between, run_fault};
 use crate::reason::reason_of;
+use crate::shell::{Made, transform};
 use crate::verdict_line::verdict_line;
-use fs_io::{Made, Sink, Source, transform};
 use fs_journal::check_from;
 use fs_script::{Journal, read_journal};
 use fs_timeline::Verdict;

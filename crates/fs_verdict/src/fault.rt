@@ -3,7 +3,7 @@
 ghost use Rattle.std.specs.Prelude.{◌≡◌};
 ghost use Rattle.fs_verdict.specs.Faults.{run_fault_of, IsBetween, status_of_fault};
 
-use fs_io::Failure;
+use crate::failure::Failure;
 use fs_names::CallNo;
 use fs_text::{FaultKind, ScriptFault};
 use thiserror::Error;

@@ -8,3 +8,5 @@ pub mod DecimalLemmas
 pub mod DigitLemmas
 pub mod PlainLemmas
 pub mod HeaderLemmas
+mod Again
+pub mod Chains

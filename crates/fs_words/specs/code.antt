@@ -2,3 +2,4 @@
 pub mod Answers
 pub mod Additions
 pub mod LinesLeft
+pub mod Kinds

@@ -3,8 +3,8 @@
 use fs_calls::{Call, Reply};
 use fs_core::Refusal;
 use fs_names::{Path, PathFault};
-use fs_pool::{JobNo, NotTaken, Pool};
 use fs_share::{Answer, Named, Observer, Open, Session, Told};
+use fs_share_pool::{JobNo, NotTaken, Pool};
 use std::alloc::{AllocError, Global};
 use std::sync::Wait;
 use std::time::Clock;

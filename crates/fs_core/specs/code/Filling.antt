@@ -5,8 +5,8 @@ use Rattle.fs_names.specs.Names.{Name}
 use Rattle.fs_names.specs.Shapes.{Shape, Dir, File, is_dir}
 use Rattle.fs_names.specs.declared.kind.Kind.{Kind}
 use Rattle.fs_names.specs.declared.kind.Kind.TheVariants as kinds
-use Rattle.fs_rows.specs.declared.rows.Row.{Row}
-use Rattle.fs_rows.specs.Rows.{key_of}
+use Rattle.fs_seq.specs.declared.rows.Row.{Row}
+use Rattle.fs_seq.specs.Rows.{key_of}
 use Rattle.fs_nodes.specs.Graphs.{Graph, numbers, linked_in, reserved_in, IsGraph}
 
 -- a new node of a kind; the bytes are those of a file

@@ -2,7 +2,7 @@
 use Rattle.std.specs.Prelude.{ℕ, ◌≡◌, Option, Some, slice_get}
 use Rattle.fs_nodes.specs.Seen.{seen}
 use Rattle.fs_nodes.specs.Stores.{graph_of}
-use Rattle.fs_finish.specs.declared.plan.Plan.{Plan}
+use Rattle.fs_ops_effects.specs.declared.plan.Plan.{Plan}
 use Rattle.fs_machine.specs.declared.moves.Move.{Move}
 use Rattle.fs_machine.specs.OpValues.{next_of}
 use Rattle.fs_ops.specs.PlanOf.{IsPlan}

@@ -1,6 +1,6 @@
 -- What is made of the text of an input, before it is written.
 use Rattle.std.specs.Prelude.{ℕ, Bool, List, Option, Result, IfOk, IfErr}
-use Rattle.fs_io.specs.declared.shell.Made.{Made}
+use Rattle.fs_verdict.specs.declared.shell.Made.{Made}
 use Rattle.fs_verdict.specs.declared.fault.RunFault.TheVariants as run
 use Rattle.fs_sched.specs.declared.schedule.Schedule.{Schedule}
 use Rattle.fs_draw.specs.Faults.{IsFaultOfPicture}

@@ -3,7 +3,7 @@ use Rattle.std.proofs.Common.{◌≡◌, ℕ, Bool, false, Option, Some, None, r
 use Rattle.fs_names.specs.Keys.{Key, last_of}
 use Rattle.fs_calls.specs.Forms.{Form, PairCall}
 use Rattle.fs_calls.specs.Forms as pairs
-use Rattle.fs_graph.specs.Graphs.{Graph}
+use Rattle.fs_calls.specs.Graphs.{Graph}
 use Rattle.fs_machine.specs.Moves.{behind_first, first_of, take_if, parents_move, next_on, step_move, target, target_move}
 use Rattle.fs_machine.specs.declared.moves.Move.{Move}
 use Rattle.fs_machine.specs.declared.moves.Move.TheVariants.{Take as Takes, LetGo as Leaves, Finish as Finishes}

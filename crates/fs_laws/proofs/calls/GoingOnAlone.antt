@@ -6,7 +6,7 @@ use Rattle.fs_names.specs.Names.{Name}
 use Rattle.fs_names.specs.Parts.{common, left, left_by}
 use Rattle.fs_calls.specs.Forms.{Form, AtNode, AtEntry, AtPair, under, by_paths, PairCall}
 use Rattle.fs_calls.specs.declared.errno.Errno.{Errno}
-use Rattle.fs_graph.specs.Graphs.{Graph, numbers, IsGraph}
+use Rattle.fs_calls.specs.Graphs.{Graph, numbers, IsGraph}
 use Rattle.fs_machine.specs.Moves.{next, next_by, next_on, target, took, victim_took, stepped, inner, tail_of, left_holdings}
 use Rattle.fs_machine.specs.declared.moves.Move.{Move}
 use Rattle.fs_machine.specs.declared.moves.Move.TheVariants.{Take as Takes, LetGo as Leaves, Finish as Finishes, Return as Ends}

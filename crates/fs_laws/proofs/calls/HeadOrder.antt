@@ -7,7 +7,7 @@ use Rattle.fs_names.specs.Shapes.{Dir}
 use Rattle.fs_calls.specs.Forms.{Form, AtNode, AtEntry, AtPair, PairCall}
 use Rattle.fs_calls.specs.Forms as pairs
 use Rattle.fs_calls.specs.declared.reply.Reply.{Reply}
-use Rattle.fs_graph.specs.Graphs.{Graph}
+use Rattle.fs_calls.specs.Graphs.{Graph}
 use Rattle.fs_machine.specs.Moves.{target, took, victim_took, stepped, took_by, inner}
 use Rattle.fs_machine.specs.Records.{Finished, Holds, Record, Holdings, Side, Source, Dest, of_side, head_on, holdings_at}
 use Rattle.fs_laws.specs.Invariants.{IsUnfinished, VictimAt}

@@ -2,7 +2,7 @@
 use Rattle.std.proofs.Common.{◌≡◌, ℕ, Option, Some, None, sym, ap, ◌∙◌, subst, inl}
 use Rattle.fs_names.specs.Keys.{Key, last_of}
 use Rattle.fs_names.specs.Shapes.{Shape, Dir}
-use Rattle.fs_graph.specs.Graphs.{numbers, IsGraph}
+use Rattle.fs_calls.specs.Graphs.{numbers, IsGraph}
 use Rattle.fs_machine.specs.Moves.{next}
 use Rattle.fs_machine.specs.declared.moves.Move.TheVariants.{Take as Takes, LetGo as Leaves}
 use Rattle.fs_machine.specs.Records.{Holds, Record, Holdings, head_on}

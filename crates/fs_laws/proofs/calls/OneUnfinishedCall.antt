@@ -5,7 +5,7 @@ use Rattle.fs_names.specs.Names.{Name}
 use Rattle.fs_names.specs.Parts.{HasNames, common, left}
 use Rattle.fs_calls.specs.Forms.{Form, AtPair, Fits, by_paths, PairCall}
 use Rattle.fs_calls.specs.Forms as pairs
-use Rattle.fs_graph.specs.Graphs.{Graph, numbers, IsGraph, entry_shape}
+use Rattle.fs_calls.specs.Graphs.{Graph, numbers, IsGraph, entry_shape}
 use Rattle.fs_machine.specs.Moves.{same_kind}
 use Rattle.fs_machine.specs.Records.{Holds, Record, Holdings, Source, Dest, head_on}
 use Rattle.fs_laws.specs.Invariants.{IsUnfinished, Forked, HeadsSound, NumberFor, VictimAt, IsSingle, Invariant}

@@ -6,7 +6,7 @@ use Rattle.fs_names.specs.Parts.{common, left, left_by}
 use Rattle.fs_names.specs.Shapes.{Shape, Dir, File}
 use Rattle.fs_calls.specs.Forms.{Form, AtNode, AtEntry, AtPair, PairCall, EntryCall}
 use Rattle.fs_calls.specs.Forms as pairs
-use Rattle.fs_graph.specs.Graphs.{Graph, entry_shape}
+use Rattle.fs_calls.specs.Graphs.{Graph, entry_shape}
 use Rattle.fs_machine.specs.Moves.{next_on, first_of, step_move, take_if, target, target_move, fork_move, parents_move, dir_then, victim_of, same_kind, rename_at, moved_node, took, victim_took, stepped, step_or, target_took, took_by, inner}
 use Rattle.fs_machine.specs.declared.moves.Move.{Move}
 use Rattle.fs_machine.specs.declared.moves.Move.TheVariants.{Take as Takes, Finish as Finishes}

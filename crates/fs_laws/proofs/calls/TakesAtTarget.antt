@@ -6,7 +6,7 @@ use Rattle.fs_names.specs.Parts.{common, left, left_by}
 use Rattle.fs_names.specs.declared.limits.Limits.{Limits}
 use Rattle.fs_calls.specs.Forms.{Form, AtPair, PairCall}
 use Rattle.fs_calls.specs.Forms as pairs
-use Rattle.fs_graph.specs.Graphs.{Graph, at, numbers, set_at}
+use Rattle.fs_calls.specs.Graphs.{Graph, at, numbers, set_at}
 use Rattle.fs_machine.specs.Moves.{head_took, took, victim_took, stepped}
 use Rattle.fs_machine.specs.Records.{Holds, Record, Holdings, Side, Source, Dest, of_side, head_on, Head}
 use Rattle.fs_laws.specs.Invariants.{Forked, ForkedAt, HeadsSound, VictimAt, IsSingle, IsUnfinished, Own, Invariant, StepKeeps, limits_of}

@@ -8,7 +8,7 @@ use Rattle.fs_laws.specs.Maps.{Map}
 use Rattle.fs_calls.specs.declared.call.Call.{Call}
 use Rattle.fs_calls.specs.declared.reply.Reply.{Reply}
 use Rattle.fs_calls.proofs.FormLemmas.{by_text_any, reserves_any}
-use Rattle.fs_graph.specs.Graphs.{Graph, numbers, graph_shapes, set_at, IsGraph, reserved_in}
+use Rattle.fs_calls.specs.Graphs.{Graph, numbers, graph_shapes, set_at, IsGraph, reserved_in}
 use Rattle.fs_timeline.specs.declared.entry.Entry.TheVariants.{Begin}
 use Rattle.fs_machine.specs.Records.{Phase, Walking, Placed, Finished, Holds, Record, Holdings}
 use Rattle.fs_laws.specs.JournalViews.{JournalView, start, view_after, noted}

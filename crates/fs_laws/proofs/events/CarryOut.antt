@@ -9,7 +9,7 @@ use Rattle.fs_laws.specs.Maps.{Map, swapped_by}
 use Rattle.fs_calls.specs.declared.errno.Errno.{Errno}
 use Rattle.fs_calls.specs.declared.reply.Reply.{Reply}
 use Rattle.fs_calls.proofs.FormLemmas.{by_text_any}
-use Rattle.fs_graph.specs.Graphs.{Graph, numbers, graph_shapes, set_at}
+use Rattle.fs_calls.specs.Graphs.{Graph, numbers, graph_shapes, set_at}
 use Rattle.fs_machine.specs.Finishes.{Effect, effect_at, effect_of, finish}
 use Rattle.fs_machine.specs.Moves.{next_on}
 use Rattle.fs_machine.specs.declared.moves.Move.TheVariants.{Finish as Finishes}

@@ -11,7 +11,7 @@ use Rattle.fs_calls.specs.declared.reply.Reply.{Reply}
 use Rattle.fs_calls.specs.declared.reply.Reply.TheVariants.{Failed}
 use Rattle.fs_calls.proofs.FormLemmas.{by_text_any}
 use Rattle.fs_calls.specs.Starts.{Start}
-use Rattle.fs_graph.specs.Graphs.{Graph, numbers, graph_shapes, set_at}
+use Rattle.fs_calls.specs.Graphs.{Graph, numbers, graph_shapes, set_at}
 use Rattle.fs_timeline.specs.declared.entry.Entry.{Entry}
 use Rattle.fs_timeline.specs.declared.entry.Entry.TheVariants.{Commit}
 use Rattle.fs_machine.specs.Finishes.{Effect, no_effect, effect_at, effect_of, finish}

@@ -4,7 +4,7 @@ use mathlib.Core.Path.{fun_ext}
 use Rattle.fs_names.specs.Keys.{Key, after_prefix}
 use Rattle.fs_names.specs.declared.limits.Limits.{Limits}
 use Rattle.fs_calls.specs.Forms.{form, under}
-use Rattle.fs_graph.specs.Graphs.{Graph, at, numbers, graph_shapes, set_at}
+use Rattle.fs_calls.specs.Graphs.{Graph, at, numbers, graph_shapes, set_at}
 use Rattle.fs_timeline.specs.declared.entry.Entry.{Entry}
 use Rattle.fs_timeline.specs.declared.entry.Entry.TheVariants.{Begin, Commit, Return}
 use Rattle.fs_machine.specs.Records.{Holdings, Phase, Walking, Placed, Finished, Record, Records, Holds}

@@ -1,7 +1,7 @@
 -- A state in which one call has just finished keeps what every state keeps.
 use Rattle.std.proofs.Common.{◌≡◌, ℕ, ◌<◌, false, List, Option, Some, sym, ap, ◌∙◌, subst, ◌⊎◌, inl, inr}
 use Rattle.fs_names.specs.Keys.{Key}
-use Rattle.fs_graph.specs.Graphs.{numbers, graph_shapes, set_at, IsGraph}
+use Rattle.fs_calls.specs.Graphs.{numbers, graph_shapes, set_at, IsGraph}
 use Rattle.fs_timeline.specs.declared.entry.Entry.{Entry}
 use Rattle.fs_machine.specs.Finishes.{Effect}
 use Rattle.fs_machine.specs.Records.{Phase, Placed, Finished, Holds, Record, Records, Holdings}

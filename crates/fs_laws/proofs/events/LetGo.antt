@@ -10,7 +10,7 @@ use Rattle.fs_calls.specs.Forms.{Form, AtNode, AtEntry, AtPair, by_paths}
 use Rattle.fs_laws.specs.Maps.{Map}
 use Rattle.fs_calls.specs.declared.errno.Errno.{Errno}
 use Rattle.fs_calls.specs.declared.reply.Reply.{Reply}
-use Rattle.fs_graph.specs.Graphs.{Graph, at, numbers, graph_shapes, entry_shape, set_at, IsGraph, released_in}
+use Rattle.fs_calls.specs.Graphs.{Graph, at, numbers, graph_shapes, entry_shape, set_at, IsGraph, released_in}
 use Rattle.fs_machine.specs.Leaving.{is_removed, releasing, cleared}
 use Rattle.fs_machine.specs.Moves.{next, next_by, next_on, first_of, step_move, walk_move, take_if, target, target_move, victim_of, parents_move, dir_then, last_held, first_walked, left_heads, left_last, left_holdings}
 use Rattle.fs_machine.specs.declared.moves.Move.{Move}

@@ -3,7 +3,7 @@ use Rattle.std.proofs.Common.{◌≡◌, ℕ, ◌<◌, Bool, true, false, cond, 
 use Rattle.fs_names.specs.Keys.{Key, after_prefix}
 use Rattle.fs_names.specs.Names.{Name}
 use Rattle.fs_laws.specs.Maps.{Map, move, swapped, swap}
-use Rattle.fs_graph.specs.Graphs.{set_at}
+use Rattle.fs_calls.specs.Graphs.{set_at}
 use Rattle.fs_machine.specs.Finishes.{Effect}
 use Rattle.fs_machine.specs.Moves.{head_took, victim_took, stepped}
 use Rattle.fs_machine.specs.Records.{Head, head_at, holdings_at, Finished, Holds, Record, Records, Phase, Placed, Holdings, Side, head_on, Walking}

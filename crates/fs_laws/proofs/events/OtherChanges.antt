@@ -4,7 +4,7 @@ use Rattle.fs_names.specs.Keys.{Key, after_prefix}
 use Rattle.fs_names.specs.Parts.{HasNames}
 use Rattle.fs_calls.specs.Forms.{Fits}
 use Rattle.fs_laws.specs.Maps.{Map, put, put_at}
-use Rattle.fs_graph.specs.Graphs.{set_at}
+use Rattle.fs_calls.specs.Graphs.{set_at}
 use Rattle.fs_machine.specs.Records.{Finished, Head, Holds, Record, Records, Phase, Placed, Holdings, Walking, Side, head_on, holdings_at}
 use Rattle.fs_laws.specs.CallFacts.{IsAfter, IsClear, IsFree, Keeps, CallFacts, Pair}
 use Rattle.fs_laws.proofs.graphs.Walks.{eqb_refl, eqb_true}

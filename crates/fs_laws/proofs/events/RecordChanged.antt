@@ -7,7 +7,7 @@ use Rattle.fs_calls.specs.Forms.{Form, under}
 use Rattle.fs_laws.specs.Maps.{Map}
 use Rattle.fs_calls.specs.declared.call.Call.{Call}
 use Rattle.fs_calls.specs.declared.reply.Reply.{Reply}
-use Rattle.fs_graph.specs.Graphs.{Graph, numbers, graph_shapes, set_at, IsGraph}
+use Rattle.fs_calls.specs.Graphs.{Graph, numbers, graph_shapes, set_at, IsGraph}
 use Rattle.fs_machine.specs.Records.{Phase, Placed, Holds, Record, Records, Holdings}
 use Rattle.fs_laws.specs.JournalViews.{start, view_after}
 use Rattle.fs_timeline.specs.Timeline.{commit_count}

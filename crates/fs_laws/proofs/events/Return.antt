@@ -6,7 +6,7 @@ use Rattle.fs_names.specs.Shapes.{Shape}
 use Rattle.fs_calls.specs.Forms.{under, by_paths}
 use Rattle.fs_laws.specs.Maps.{Map}
 use Rattle.fs_calls.specs.declared.reply.Reply.{Reply}
-use Rattle.fs_graph.specs.Graphs.{Graph, at, numbers, graph_shapes, set_at, IsGraph}
+use Rattle.fs_calls.specs.Graphs.{Graph, at, numbers, graph_shapes, set_at, IsGraph}
 use Rattle.fs_timeline.specs.declared.entry.Entry.TheVariants.{Return}
 use Rattle.fs_machine.specs.Leaving.{unreserved}
 use Rattle.fs_machine.specs.Moves.{next, next_by}

@@ -10,7 +10,7 @@ use Rattle.fs_laws.specs.Maps.{Map, below}
 use Rattle.fs_calls.specs.Rows.{node_row, entry_row}
 use Rattle.fs_calls.specs.declared.reply.Reply.{Reply}
 use Rattle.fs_calls.specs.declared.reply.Reply.TheVariants.{Failed}
-use Rattle.fs_graph.specs.Graphs.{Graph, numbers, graph_shapes, entry_shape}
+use Rattle.fs_calls.specs.Graphs.{Graph, numbers, graph_shapes, entry_shape}
 use Rattle.fs_machine.specs.Finishes.{no_effect, effect_at}
 use Rattle.fs_machine.specs.Moves.{next_on, entry_move, fork_move, path_error, dir_error, walk_errno}
 use Rattle.fs_machine.specs.declared.moves.Move.TheVariants.{Finish as Finishes}

@@ -5,7 +5,7 @@ use Rattle.fs_laws.specs.Changes.{swap_change}
 use Rattle.fs_calls.specs.Forms.{AtPair, Fits}
 use Rattle.fs_calls.specs.Forms as pairs
 use Rattle.fs_laws.specs.Maps.{Map, swap, swapped}
-use Rattle.fs_graph.specs.Graphs.{Graph, numbers, swapped_in}
+use Rattle.fs_calls.specs.Graphs.{Graph, numbers, swapped_in}
 use Rattle.fs_machine.specs.Finishes.{swap_effect, exchange_effect}
 use Rattle.fs_machine.specs.Moves.{fork_move, exchange_at}
 use Rattle.fs_machine.specs.declared.moves.Move.TheVariants.{Finish as Finishes}

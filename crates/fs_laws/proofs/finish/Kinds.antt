@@ -5,7 +5,7 @@ use Rattle.fs_names.specs.Names.{Name, name_cmp, same_name, inserted_name, remov
 use Rattle.fs_names.proofs.Lemmas.{name_total}
 use Rattle.fs_calls.specs.Rows.{written, resized}
 use Rattle.fs_machine.specs.States.{AreRising}
-use Rattle.fs_graph.proofs.NameLemmas.{Compared, Below, Same, Above, compare, inserted_below, inserted_same, inserted_above, has_inserted}
+use Rattle.fs_calls.proofs.NameLemmas.{Compared, Below, Same, Above, compare, inserted_below, inserted_same, inserted_above, has_inserted}
 use Rattle.fs_laws.proofs.trees.Prefixes.{same_refl, same_true}
 
 -- names in byte order, each once

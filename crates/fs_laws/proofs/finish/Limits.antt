@@ -19,7 +19,7 @@ use Rattle.fs_calls.specs.declared.errno.Errno.TheVariants.{Efbig}
 use Rattle.fs_calls.specs.declared.reply.Reply.{Reply}
 use Rattle.fs_calls.specs.declared.reply.Reply.TheVariants.{Done, Wrote}
 use Rattle.fs_calls.proofs.FormLemmas.{HasLimit, EntryHasLimit, LimitedTo, form_limited, under_limited}
-use Rattle.fs_graph.specs.Graphs.{Graph, set_at, entry_shape, IsGraph, at}
+use Rattle.fs_calls.specs.Graphs.{Graph, set_at, entry_shape, IsGraph, at}
 use Rattle.fs_machine.specs.Finishes.{node_effect, entry_effect, move_effect, rename_effect, effect_at, effect_of, finish, swap_effect, exchange_effect}
 use Rattle.fs_machine.specs.Moves.{dir_error, path_error, there_by, rename_at, target, exchange_at}
 use Rattle.fs_machine.specs.Records.{Record, Holdings, Source, Dest}

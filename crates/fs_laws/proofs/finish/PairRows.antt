@@ -11,7 +11,7 @@ use Rattle.fs_calls.specs.Forms as pairs
 use Rattle.fs_calls.specs.declared.errno.Errno.{Errno}
 use Rattle.fs_calls.specs.declared.reply.Reply.{Reply}
 use Rattle.fs_calls.specs.declared.reply.Reply.TheVariants.{Failed}
-use Rattle.fs_graph.specs.Graphs.{Graph}
+use Rattle.fs_calls.specs.Graphs.{Graph}
 use Rattle.fs_machine.specs.Finishes.{Effect, no_effect, move_effect, rename_effect, swap_effect, exchange_effect, effect_at}
 use Rattle.fs_machine.specs.Moves.{target, walk_errno, rename_at, exchange_at}
 use Rattle.fs_machine.specs.Records.{Holdings}

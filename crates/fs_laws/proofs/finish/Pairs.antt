@@ -6,7 +6,7 @@ use Rattle.fs_names.specs.Parts.{common, left}
 use Rattle.fs_names.specs.Shapes.{Shape, Dir, File}
 use Rattle.fs_laws.specs.Changes.{resolve_dir}
 use Rattle.fs_calls.specs.Forms.{AtPair, PairCall}
-use Rattle.fs_graph.specs.Graphs.{Graph, at, IsGraph}
+use Rattle.fs_calls.specs.Graphs.{Graph, at, IsGraph}
 use Rattle.fs_machine.specs.Moves.{first_of, step_move, dir_then, fork_move, parents_move, next_on, walk_move, walk_errno, dir_error}
 use Rattle.fs_machine.specs.declared.moves.Move.{Move}
 use Rattle.fs_machine.specs.declared.moves.Move.TheVariants.{Finish as Finishes}

@@ -12,7 +12,7 @@ use Rattle.fs_laws.specs.Maps.{Map, below}
 use Rattle.fs_calls.specs.Rows.{as_dir, node_row, entry_row, rename_row, exchange_row}
 use Rattle.fs_laws.proofs.finish.RowParts.{to_row, moves_row, rename_row_in_dirs}
 use Rattle.fs_calls.specs.declared.errno.Errno.{Errno}
-use Rattle.fs_graph.specs.Graphs.{Graph, then_at, at, numbers, graph_shapes, entry_shape, IsGraph}
+use Rattle.fs_calls.specs.Graphs.{Graph, then_at, at, numbers, graph_shapes, entry_shape, IsGraph}
 use Rattle.fs_machine.specs.Moves.{walk_move, walk_errno, path_error, dir_error, there_by}
 use Rattle.fs_machine.specs.declared.moves.Move.TheVariants.{Finish as Finishes}
 use Rattle.fs_machine.specs.declared.moves.Moved.TheVariants.{Nothing}

@@ -7,7 +7,7 @@ use Rattle.fs_names.specs.Shapes.{Shape, Dir, File, is_full}
 use Rattle.fs_calls.specs.Forms.{AtPair, Fits, PairCall}
 use Rattle.fs_calls.specs.Forms as pairs
 use Rattle.fs_laws.proofs.finish.RowParts.{to_row}
-use Rattle.fs_graph.specs.Graphs.{Graph, at, numbers, then_at, entry_shape, IsGraph}
+use Rattle.fs_calls.specs.Graphs.{Graph, at, numbers, then_at, entry_shape, IsGraph}
 use Rattle.fs_machine.specs.Moves.{first_of, step_move, take_if, same_kind, fork_move, rename_move, dir_then, dir_error, rename_at, there_by, moved_node, parents_move, exchange_at, exchange_move, moved_nodes}
 use Rattle.fs_machine.specs.declared.moves.Move.{Move}
 use Rattle.fs_machine.specs.declared.moves.Move.TheVariants.{Finish as Finishes}

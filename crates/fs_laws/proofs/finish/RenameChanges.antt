@@ -10,7 +10,7 @@ use Rattle.fs_calls.specs.Forms.{Form, AtPair, Fits}
 use Rattle.fs_calls.specs.Forms as pairs
 use Rattle.fs_laws.specs.Maps.{Map, put, put_at, move, moved_to, moved_from}
 use Rattle.fs_calls.specs.declared.reply.Reply.{Reply}
-use Rattle.fs_graph.specs.Graphs.{Graph, at, numbers, entry_shape, moved_in}
+use Rattle.fs_calls.specs.Graphs.{Graph, at, numbers, entry_shape, moved_in}
 use Rattle.fs_machine.specs.Finishes.{move_effect, rename_effect}
 use Rattle.fs_machine.specs.Moves.{take_if, same_kind, fork_move, moved_node, dir_error, rename_at}
 use Rattle.fs_machine.specs.declared.moves.Move.TheVariants.{Finish as Finishes}

@@ -12,7 +12,7 @@ use Rattle.fs_calls.specs.declared.errno.Errno.{Errno}
 use Rattle.fs_calls.specs.declared.errno.Errno.TheVariants.{Enoent, Enotdir, Eexist, Enotempty, Eperm, Enospc}
 use Rattle.fs_calls.specs.declared.reply.Reply.{Reply}
 use Rattle.fs_calls.specs.declared.reply.Reply.TheVariants.{Done, Failed}
-use Rattle.fs_graph.specs.Graphs.{Graph, then_at, numbers, graph_shapes, entry_shape, IsGraph, unlinked_in}
+use Rattle.fs_calls.specs.Graphs.{Graph, then_at, numbers, graph_shapes, entry_shape, IsGraph, unlinked_in}
 use Rattle.fs_machine.specs.Finishes.{Effect, node_effect, entry_effect, effect_at}
 use Rattle.fs_machine.specs.Moves.{target_move, next_on, walk_errno, path_error, dir_error}
 use Rattle.fs_machine.specs.declared.moves.Move.TheVariants.{Finish as Finishes}

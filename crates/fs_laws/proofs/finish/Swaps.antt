@@ -10,7 +10,7 @@ use Rattle.fs_calls.specs.Rows.{exchange_row}
 use Rattle.fs_calls.specs.Forms as pairs
 use Rattle.fs_calls.specs.declared.errno.Errno.{Errno}
 use Rattle.fs_laws.specs.Maps.{swap}
-use Rattle.fs_graph.specs.Graphs.{Graph, numbers, graph_shapes, entry_shape, IsGraph}
+use Rattle.fs_calls.specs.Graphs.{Graph, numbers, graph_shapes, entry_shape, IsGraph}
 use Rattle.fs_machine.specs.Finishes.{swap_effect, exchange_effect}
 use Rattle.fs_machine.specs.Moves.{dir_error, exchange_at}
 use Rattle.fs_machine.specs.Records.{Holdings, Source, Dest, Side, of_side, head_on}

@@ -12,7 +12,7 @@ use Rattle.fs_calls.specs.Rows.{as_dir, node_row, Edit, entry_row, rename_row}
 use Rattle.fs_laws.proofs.finish.RowParts.{to_row, moves_row}
 use Rattle.fs_calls.specs.declared.errno.Errno.{Errno}
 use Rattle.fs_calls.specs.declared.reply.Reply.{Reply}
-use Rattle.fs_graph.specs.Graphs.{Graph, then_at, at, numbers, graph_shapes, entry_shape, IsGraph}
+use Rattle.fs_calls.specs.Graphs.{Graph, then_at, at, numbers, graph_shapes, entry_shape, IsGraph}
 use Rattle.fs_machine.specs.Finishes.{Effect, node_effect, move_effect, effect_at}
 use Rattle.fs_machine.specs.Moves.{target_move, next_on, walk_errno, dir_error, there_by, rename_at}
 use Rattle.fs_machine.specs.declared.moves.Move.TheVariants.{Finish as Finishes}

@@ -4,7 +4,7 @@ use Rattle.fs_names.specs.Keys.{Key, after_prefix}
 use Rattle.fs_names.specs.Names.{Name, inserted_name, removed_name}
 use Rattle.fs_names.specs.Shapes.{Shape, Dir, File, names_of}
 use Rattle.fs_laws.specs.Maps.{Map, put, put_at, move, moved_to, moved_from, swapped}
-use Rattle.fs_graph.specs.Graphs.{Graph, Children, numbers, IsGraph, set_child, set_at, content_in, linked_in, unlinked_in, moved_in, swapped_in}
+use Rattle.fs_calls.specs.Graphs.{Graph, Children, numbers, IsGraph, set_child, set_at, content_in, linked_in, unlinked_in, moved_in, swapped_in}
 use Rattle.fs_machine.specs.Records.{Holds, Holdings}
 use Rattle.fs_laws.proofs.trees.Prefixes.{prefix_append}
 use Rattle.fs_laws.proofs.graphs.Walks.{at_child, set_else}

@@ -4,7 +4,7 @@ use Rattle.fs_names.specs.Keys.{Key}
 use Rattle.fs_names.specs.Names.{Name, same_name}
 use Rattle.fs_names.specs.Shapes.{Dir}
 use Rattle.fs_laws.specs.Maps.{Map, put}
-use Rattle.fs_graph.specs.Graphs.{Graph, numbers, linked_in, IsGraph}
+use Rattle.fs_calls.specs.Graphs.{Graph, numbers, linked_in, IsGraph}
 use Rattle.fs_laws.proofs.trees.Commuting.{put_other}
 use Rattle.fs_laws.proofs.graphs.Walks.{eqb_true, at_child}
 use Rattle.fs_laws.proofs.graphs.TreesOfChanges.{CanLink, numbers_linked, put_one}

@@ -3,7 +3,7 @@ use Rattle.std.proofs.Common.{◌≡◌, ℕ, Bool, true, false, cond, eqb, List
 use Rattle.std.specs.Ordering.{is_lt}
 use Rattle.fs_names.specs.Names.{name_cmp, Name, same_name, inserted_name, removed_name, has_name}
 use Rattle.fs_names.specs.Shapes.{Shape, Dir, File}
-use Rattle.fs_graph.specs.Graphs.{Graph, content_in, IsGraph}
+use Rattle.fs_calls.specs.Graphs.{Graph, content_in, IsGraph}
 use Rattle.fs_laws.proofs.trees.Prefixes.{same_refl, same_true}
 use Rattle.fs_laws.proofs.graphs.Walks.{eqb_true}
 

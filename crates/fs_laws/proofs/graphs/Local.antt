@@ -2,7 +2,7 @@
 use Rattle.std.proofs.Common.{◌≡◌, ℕ, Bool, true, false, cond, eqb, ◌&&◌, List, Some, None, refl, sym, ap, ◌∙◌}
 use Rattle.fs_names.specs.Names.{Name, same_name, inserted_name, removed_name, has_name}
 use Rattle.fs_names.specs.Shapes.{Shape, Dir, names_of}
-use Rattle.fs_graph.specs.Graphs.{Graph, linked_in, unlinked_in, IsGraph}
+use Rattle.fs_calls.specs.Graphs.{Graph, linked_in, unlinked_in, IsGraph}
 use Rattle.fs_laws.proofs.trees.Prefixes.{same_true}
 use Rattle.fs_laws.proofs.graphs.Walks.{eqb_true}
 use Rattle.fs_laws.proofs.graphs.Listings.{has_with, with_else, has_without, without_else}

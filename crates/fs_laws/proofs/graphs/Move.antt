@@ -4,7 +4,7 @@ use Rattle.fs_names.specs.Keys.{Key, after_prefix}
 use Rattle.fs_names.specs.Names.{Name, same_name, removed_name}
 use Rattle.fs_names.specs.Shapes.{Shape, Dir, names_of}
 use Rattle.fs_laws.specs.Maps.{Map, move}
-use Rattle.fs_graph.specs.Graphs.{Graph, at, numbers, set_child, unlinked_in, moved_in, IsGraph}
+use Rattle.fs_calls.specs.Graphs.{Graph, at, numbers, set_child, unlinked_in, moved_in, IsGraph}
 use Rattle.fs_laws.proofs.trees.Prefixes.{prefix_some}
 use Rattle.fs_laws.proofs.trees.Commuting.{move_to, move_else}
 use Rattle.fs_laws.proofs.helping.FinishPassesPlaced.{prefix_before}

@@ -7,7 +7,7 @@ use Rattle.fs_names.specs.Parts.{common}
 use Rattle.fs_names.specs.Shapes.{Shape, Dir}
 use Rattle.fs_names.specs.declared.limits.Limits.{Limits}
 use Rattle.fs_calls.specs.Forms.{Form, AtNode, AtEntry, AtPair}
-use Rattle.fs_graph.specs.Graphs.{Graph, at, then_at, numbers, graph_shapes, IsGraph, released_in, reserved_in}
+use Rattle.fs_calls.specs.Graphs.{Graph, at, then_at, numbers, graph_shapes, IsGraph, released_in, reserved_in}
 use Rattle.fs_machine.specs.Records.{Record, Holdings, head_on}
 use Rattle.fs_laws.specs.Invariants.{ForkedAt, HeadsSound, NumberFor, VictimAt, HasSpare, Own}
 use Rattle.fs_laws.proofs.graphs.Walks.{at_child}

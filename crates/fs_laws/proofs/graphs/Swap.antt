@@ -6,7 +6,7 @@ use Rattle.fs_names.specs.Names.{Name, same_name}
 use Rattle.fs_names.specs.Shapes.{Shape}
 use Rattle.fs_laws.specs.Maps.{Map, swap, swapped}
 use Rattle.fs_laws.specs.Placed.{Aside}
-use Rattle.fs_graph.specs.Graphs.{Graph, Children, at, numbers, graph_shapes, then_at, set_child, swapped_in, IsGraph}
+use Rattle.fs_calls.specs.Graphs.{Graph, Children, at, numbers, graph_shapes, then_at, set_child, swapped_in, IsGraph}
 use Rattle.fs_laws.proofs.trees.Prefixes.{same_true, prefix_append, prefix_some}
 use Rattle.fs_laws.proofs.trees.Commuting.{swapped_twice, swap_first, swap_second, swap_else}
 use Rattle.fs_laws.proofs.helping.FinishPassesPlaced.{prefix_before}

@@ -8,7 +8,7 @@ use Rattle.fs_names.specs.Shapes.{names_of, Dir, File, Shape}
 use Rattle.fs_laws.specs.Changes.{rename_writes, resolve, resolve_next}
 use Rattle.fs_laws.specs.Maps.{Map, move, moved_from, moved_to, put, put_at, write_all}
 use Rattle.fs_calls.specs.declared.errno.Errno.{Errno}
-use Rattle.fs_graph.specs.Graphs.{Graph, IsGraph, Children, at, content_in, linked_in, moved_in, numbers, set_child, set_at, graph_shapes, then_at, unlinked_in}
+use Rattle.fs_calls.specs.Graphs.{Graph, IsGraph, Children, at, content_in, linked_in, moved_in, numbers, set_child, set_at, graph_shapes, then_at, unlinked_in}
 use Rattle.fs_laws.specs.Placed.{Aside}
 use Rattle.fs_laws.proofs.trees.Prefixes.{prefix_append, prefix_some}
 use Rattle.fs_laws.proofs.helping.FinishPassesPlaced.{prefix_before}

@@ -2,7 +2,7 @@
 use Rattle.std.proofs.Common.{◌≡◌, ℕ, Bool, true, false, cond, eqb, ◌&&◌, [], ◌∷◌, ◌++◌, Option, Some, None, refl, sym, ap, ◌∙◌, arith, append_assoc, ap₂}
 use Rattle.fs_names.specs.Keys.{Key, after_prefix}
 use Rattle.fs_names.specs.Names.{Name, same_name}
-use Rattle.fs_graph.specs.Graphs.{Children, at, set_child, then_at}
+use Rattle.fs_calls.specs.Graphs.{Children, at, set_child, then_at}
 use Rattle.fs_laws.proofs.trees.Prefixes.{same_refl, same_true, prefix_append}
 
 pub eqb_refl : (n : ℕ) → eqb n n ≡ true

@@ -9,7 +9,7 @@ use Rattle.fs_calls.specs.Forms as pairs
 use Rattle.fs_calls.specs.Rows.{node_row, Edit, Keep, Add, Remove, entry_row}
 use Rattle.fs_calls.specs.declared.errno.Errno.{Errno}
 use Rattle.fs_calls.specs.declared.reply.Reply.{Reply}
-use Rattle.fs_graph.specs.Graphs.{Graph, Children, at, set_child, entry_shape, IsGraph}
+use Rattle.fs_calls.specs.Graphs.{Graph, Children, at, set_child, entry_shape, IsGraph}
 use Rattle.fs_machine.specs.Finishes.{Effect, node_effect, entry_effect, move_effect, swap_effect, effect_at, effect_of, finish}
 use Rattle.fs_machine.specs.Moves.{next, next_by, next_on, first_of, step_move, walk_move, take_if, target, target_move, fork_move, rename_move, rename_at, moved_node, exchange_at, moved_nodes, parents_move, dir_then, dir_error, path_error, there_by, victim_of}
 use Rattle.fs_machine.specs.declared.moves.Move.{Move}

@@ -11,7 +11,7 @@ use Rattle.fs_laws.specs.Maps.{Map, below}
 use Rattle.fs_calls.specs.Rows.{as_dir}
 use Rattle.fs_calls.specs.declared.errno.Errno.{Errno}
 use Rattle.fs_calls.specs.declared.reply.Reply.{Reply}
-use Rattle.fs_graph.specs.Graphs.{Graph, at, then_at, numbers, graph_shapes, entry_shape, IsGraph}
+use Rattle.fs_calls.specs.Graphs.{Graph, at, then_at, numbers, graph_shapes, entry_shape, IsGraph}
 use Rattle.fs_machine.specs.Moves.{next_on, same_kind, fork_move, dir_error, walk_errno, rename_at, exchange_at}
 use Rattle.fs_machine.specs.declared.moves.Move.TheVariants.{Finish as Finishes}
 use Rattle.fs_machine.specs.declared.moves.Moved.{Moved}

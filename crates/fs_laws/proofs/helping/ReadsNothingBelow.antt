@@ -8,7 +8,7 @@ use Rattle.fs_laws.specs.Changes.{resolve, resolve_dir, looked, edit_change, con
 use Rattle.fs_calls.specs.Forms.{NodeCall, Form, AtNode, AtEntry, under, Fits, EntryCall, Mkdir, Mknod, Unlink, Rmdir}
 use Rattle.fs_calls.specs.Rows.{node_row, Edit, Keep, Add, Remove, entry_row}
 use Rattle.fs_calls.specs.declared.errno.Errno.{Errno}
-use Rattle.fs_graph.specs.Graphs.{Graph, at, then_at, numbers, graph_shapes, entry_shape, IsGraph}
+use Rattle.fs_calls.specs.Graphs.{Graph, at, then_at, numbers, graph_shapes, entry_shape, IsGraph}
 use Rattle.fs_machine.specs.Moves.{take_if, target_move, next_on, walk_move, victim_of, entry_move}
 use Rattle.fs_machine.specs.declared.moves.Move.TheVariants.{Finish as Finishes}
 use Rattle.fs_machine.specs.declared.moves.Moved.{Moved}

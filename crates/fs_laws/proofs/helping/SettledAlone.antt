@@ -9,7 +9,7 @@ use Rattle.fs_calls.specs.Forms as pairs
 use Rattle.fs_laws.specs.Maps.{Map}
 use Rattle.fs_calls.specs.Rows.{node_row, Edit, Keep, Add, Remove, entry_row}
 use Rattle.fs_calls.specs.declared.reply.Reply.{Reply}
-use Rattle.fs_graph.specs.Graphs.{Graph, Children, at, numbers, graph_shapes, set_child, set_at, entry_shape, IsGraph, unlinked_in}
+use Rattle.fs_calls.specs.Graphs.{Graph, Children, at, numbers, graph_shapes, set_child, set_at, entry_shape, IsGraph, unlinked_in}
 use Rattle.fs_machine.specs.Finishes.{Effect, node_effect, entry_effect, move_effect, rename_effect, effect_at, effect_of, finish, swap_effect, exchange_effect}
 use Rattle.fs_machine.specs.Moves.{next, next_on, target, dir_error, path_error, rename_at, exchange_at}
 use Rattle.fs_machine.specs.declared.moves.Move.TheVariants.{Finish as Finishes}

@@ -2,7 +2,7 @@
 use Rattle.std.proofs.Common.{◌≡◌, ℕ, ◌<◌, List, [], ◌∷◌, Option, Some, sym, ap, ◌∙◌, arith, subst}
 use Rattle.fs_names.specs.Keys.{Key}
 use Rattle.fs_laws.specs.Maps.{Map}
-use Rattle.fs_graph.specs.Graphs.{Graph, IsGraph, numbers, graph_shapes}
+use Rattle.fs_calls.specs.Graphs.{Graph, IsGraph, numbers, graph_shapes}
 use Rattle.fs_machine.specs.Records.{Record, Records, Phase, Placed}
 use Rattle.fs_laws.specs.Invariants.{spots, IsPlaced, AllLater, InOrder}
 use Rattle.fs_laws.specs.Placed.{NoneUnder, InPlace}

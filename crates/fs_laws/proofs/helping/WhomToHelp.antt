@@ -4,7 +4,7 @@ use Rattle.std.specs.Prelude.{nat_le}
 use Rattle.std.proofs.lemmas.Bool.Decides.{nat_tests}
 use Rattle.std.proofs.lemmas.List.{length-append}
 use Rattle.fs_names.specs.Keys.{Key, after_prefix}
-use Rattle.fs_graph.specs.Graphs.{at, numbers}
+use Rattle.fs_calls.specs.Graphs.{at, numbers}
 use Rattle.fs_machine.specs.Records.{Phase, Walking, Placed, Finished, Record, Records, Holdings}
 use Rattle.fs_timeline.specs.Timeline.{begins}
 use Rattle.fs_laws.specs.Invariants.{Invariant}

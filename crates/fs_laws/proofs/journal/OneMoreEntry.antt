@@ -4,7 +4,7 @@ use Rattle.fs_laws.specs.Changes.{reply}
 use Rattle.fs_calls.specs.Forms.{form}
 use Rattle.fs_calls.specs.declared.call.Call.{Call}
 use Rattle.fs_calls.specs.declared.reply.Reply.{Reply}
-use Rattle.fs_graph.specs.Graphs.{set_at}
+use Rattle.fs_calls.specs.Graphs.{set_at}
 use Rattle.fs_timeline.specs.declared.entry.Entry.{Entry}
 use Rattle.fs_timeline.specs.declared.entry.Entry.TheVariants.{Begin, Commit, Return}
 use Rattle.fs_laws.specs.JournalViews.{JournalView, commit_of, IsLawful, IsNext, view_after, noted}

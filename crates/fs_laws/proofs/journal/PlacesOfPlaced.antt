@@ -4,7 +4,7 @@ use Rattle.fs_names.specs.Keys.{Key}
 use Rattle.fs_names.specs.Shapes.{Shape}
 use Rattle.fs_calls.specs.Forms.{reserved_by}
 use Rattle.fs_calls.specs.declared.call.Call.{Call}
-use Rattle.fs_graph.specs.Graphs.{Graph, set_at, reserved_in}
+use Rattle.fs_calls.specs.Graphs.{Graph, set_at, reserved_in}
 use Rattle.fs_timeline.specs.Timeline as journal
 use Rattle.fs_timeline.specs.declared.entry.Entry.{Entry}
 use Rattle.fs_timeline.specs.declared.entry.Entry.TheVariants.{Begin, Commit, Return}

@@ -10,7 +10,7 @@ use Rattle.fs_calls.specs.declared.call.Call.{Call}
 use Rattle.fs_names.specs.declared.limits.Limits.{Limits}
 use Rattle.fs_calls.specs.Starts.{Start}
 use Rattle.fs_timeline.specs.declared.entry.Entry.{Entry}
-use Rattle.fs_graph.specs.Graphs.{set_at}
+use Rattle.fs_calls.specs.Graphs.{set_at}
 use Rattle.fs_timeline.specs.declared.entry.Entry.TheVariants.{Commit, Begin, Return}
 use Rattle.fs_machine.specs.Records.{Finished, Record, Records, Phase, Placed, Walking}
 use Rattle.fs_laws.specs.JournalViews.{JournalView, IsNext, commit_of, noted, start, view_after}

@@ -13,7 +13,7 @@ use Rattle.fs_calls.specs.declared.call.Call.{Call}
 use Rattle.fs_calls.specs.declared.reply.Reply.{Reply}
 use Rattle.fs_calls.proofs.TreeLaws.{stays_a_tree}
 use Rattle.fs_names.specs.declared.limits.Limits.{Limits}
-use Rattle.fs_graph.specs.Graphs.{set_at}
+use Rattle.fs_calls.specs.Graphs.{set_at}
 use Rattle.fs_timeline.specs.Timeline as journal
 use Rattle.fs_timeline.specs.Verdicts.{entry_fault, is_due}
 use Rattle.fs_timeline.specs.JournalStates.{JournalState, IsTrueOf, changed, is_waiting, known_fault, played, taken_in}

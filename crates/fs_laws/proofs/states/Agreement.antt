@@ -9,7 +9,7 @@ use Rattle.fs_calls.specs.Forms.{form, by_text, reserves, Form, AtNode, AtEntry,
 use Rattle.fs_calls.specs.declared.call.Call.{Call}
 use Rattle.fs_calls.specs.declared.reply.Reply.{Reply}
 use Rattle.fs_calls.proofs.FormLemmas.{by_text_any, reserves_any}
-use Rattle.fs_graph.specs.Graphs.{Graph, numbers, set_at, released_in, reserved_in}
+use Rattle.fs_calls.specs.Graphs.{Graph, numbers, set_at, released_in, reserved_in}
 use Rattle.fs_machine.specs.Finishes.{finish}
 use Rattle.fs_machine.specs.Leaving.{is_removed, releasing, let_go, finished_op, unreserved}
 use Rattle.fs_machine.specs.Moves.{next, took, left_holdings, next_on}

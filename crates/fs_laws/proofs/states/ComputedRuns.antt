@@ -9,7 +9,7 @@ use Rattle.fs_calls.specs.declared.call.Call.{Call}
 use Rattle.fs_calls.specs.declared.reply.Reply.{Reply}
 use Rattle.fs_calls.specs.Starts.{root_start}
 use Rattle.fs_names.specs.declared.limits.Limits.TheVariants.{V1}
-use Rattle.fs_graph.specs.Graphs.{Graph, empty_graph, numbers, reserved_in}
+use Rattle.fs_calls.specs.Graphs.{Graph, empty_graph, numbers, reserved_in}
 use Rattle.fs_machine.specs.Moves.{next, next_by}
 use Rattle.fs_machine.specs.declared.moves.Move.{Move}
 use Rattle.fs_machine.specs.declared.moves.Move.TheVariants.{Take as Takes, LetGo as Leaves, Finish as Finishes, Return as Ends}

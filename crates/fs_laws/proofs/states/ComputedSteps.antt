@@ -6,7 +6,7 @@ use Rattle.fs_names.specs.Shapes.{Shape, Dir, File}
 use Rattle.fs_calls.specs.Forms.{Form, AtNode, AtEntry, AtPair, PairCall}
 use Rattle.fs_calls.specs.declared.errno.Errno.{Errno}
 use Rattle.fs_calls.specs.declared.reply.Reply.{Reply}
-use Rattle.fs_graph.specs.Graphs.{Graph}
+use Rattle.fs_calls.specs.Graphs.{Graph}
 use Rattle.fs_machine.specs.Moves.{behind_first, first_of, step_move, walk_move, take_if, dir_then, parents_move, target_move, target, next_on, next_by}
 use Rattle.fs_machine.specs.declared.moves.Move.{Move}
 use Rattle.fs_machine.specs.declared.moves.Move.TheVariants.{Finish as Finishes, Return as Ends}

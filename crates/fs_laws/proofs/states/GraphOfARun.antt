@@ -10,7 +10,7 @@ use Rattle.fs_calls.specs.Forms.{Form, AtNode, AtEntry, AtPair, Fits, by_paths}
 use Rattle.fs_calls.specs.Forms as pairs
 use Rattle.fs_calls.specs.declared.errno.Errno.{Errno}
 use Rattle.fs_calls.specs.declared.reply.Reply.{Reply}
-use Rattle.fs_graph.specs.Graphs.{Graph, at, numbers, IsGraph, IsReached}
+use Rattle.fs_calls.specs.Graphs.{Graph, at, numbers, IsGraph, IsReached}
 use Rattle.fs_machine.specs.Leaving.{is_removed}
 use Rattle.fs_machine.specs.Moves.{next, next_by}
 use Rattle.fs_machine.specs.declared.moves.Move.TheVariants.{Finish as Finishes, Return as Ends}

@@ -4,7 +4,7 @@ use Rattle.fs_calls.specs.Sights.{tree_shapes}
 use Rattle.fs_calls.specs.Starts.{Start}
 use Rattle.fs_laws.specs.Changes.{play}
 use Rattle.fs_calls.specs.declared.call.Call.{Call}
-use Rattle.fs_graph.specs.Graphs.{Graph, graph_shapes}
+use Rattle.fs_calls.specs.Graphs.{Graph, graph_shapes}
 use Rattle.fs_timeline.specs.declared.entry.Entry.{Entry}
 use Rattle.fs_timeline.specs.declared.entry.Entry.TheVariants.{Begin, Commit, Return}
 use Rattle.fs_machine.specs.Records.{Record, Records}

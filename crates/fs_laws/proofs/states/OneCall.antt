@@ -12,7 +12,7 @@ use Rattle.fs_calls.specs.declared.reply.Reply.{Reply}
 use Rattle.fs_calls.proofs.TreeLaws.{played_trees_are_trees}
 use Rattle.fs_names.specs.declared.limits.Limits.{Limits}
 use Rattle.fs_laws.proofs.journal.ViewAndMachine.{view_limits}
-use Rattle.fs_graph.specs.Graphs.{Graph, graph_shapes, set_at, reserved_in}
+use Rattle.fs_calls.specs.Graphs.{Graph, graph_shapes, set_at, reserved_in}
 use Rattle.fs_timeline.specs.Timeline as journal
 use Rattle.fs_timeline.specs.declared.entry.Entry.TheVariants.{Begin, Commit, Return}
 use Rattle.fs_machine.specs.Records.{Walking, Record}

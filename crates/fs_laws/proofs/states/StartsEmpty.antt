@@ -10,7 +10,7 @@ use Rattle.fs_calls.specs.Sights.{tree_shapes}
 use Rattle.fs_calls.proofs.TreeLaws.{played_trees_are_trees}
 use Rattle.fs_calls.specs.Starts.{root_start}
 use Rattle.fs_names.specs.declared.limits.Limits.{Limits}
-use Rattle.fs_graph.specs.Graphs.{numbers, graph_shapes, IsGraph, empty_graph}
+use Rattle.fs_calls.specs.Graphs.{numbers, graph_shapes, IsGraph, empty_graph}
 use Rattle.fs_machine.specs.States.{IsStart, AreRising}
 use Rattle.fs_laws.proofs.events.OneCallChanged.{Place, Here, Else, place}
 

@@ -6,7 +6,7 @@ use Rattle.fs_calls.specs.Forms.{form, Form, by_paths, reserved_by}
 use Rattle.fs_calls.specs.declared.call.Call.{Call}
 use Rattle.fs_calls.specs.declared.errno.Errno.{Errno}
 use Rattle.fs_calls.specs.declared.reply.Reply.{Reply}
-use Rattle.fs_graph.specs.Graphs.{Graph, set_at, reserved_in}
+use Rattle.fs_calls.specs.Graphs.{Graph, set_at, reserved_in}
 use Rattle.fs_machine.specs.Finishes.{finish, Effect}
 use Rattle.fs_machine.specs.Leaving.{let_go, finished_op}
 use Rattle.fs_machine.specs.Moves.{next, next_by, took, took_by, target, left_holdings, left_last, left_heads, next_on}

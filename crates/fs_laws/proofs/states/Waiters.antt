@@ -6,7 +6,7 @@ use Rattle.fs_names.specs.Names.{Name}
 use Rattle.fs_names.specs.Parts.{HasNames}
 use Rattle.fs_calls.specs.Forms.{by_paths}
 use Rattle.fs_calls.specs.declared.reply.Reply.{Reply}
-use Rattle.fs_graph.specs.Graphs.{numbers}
+use Rattle.fs_calls.specs.Graphs.{numbers}
 use Rattle.fs_machine.specs.Moves.{next, next_on}
 use Rattle.fs_machine.specs.declared.moves.Move.{Move}
 use Rattle.fs_machine.specs.declared.moves.Move.TheVariants.{Take as Takes, LetGo as Leaves, Finish as Finishes, Return as Ends}

@@ -2,15 +2,15 @@
 use Rattle.std.specs.Prelude.{◌≡◌, List, Option, Contains, IfSome}
 use Rattle.fs_calls.specs.Starts.{Start}
 use Rattle.fs_timeline.specs.declared.entry.Entry.{Entry}
-use Rattle.fs_histories.specs.declared.heard.Heard.{Heard}
-use Rattle.fs_histories.specs.Histories.{Explains}
-use Rattle.fs_configurations.specs.code.Calls.{AreEach, AreUnderWay}
-use Rattle.fs_configurations.specs.code.Ways.{GoesBy, IsLed, Keeps}
+use Rattle.fs_linearize_histories.specs.declared.heard.Heard.{Heard}
+use Rattle.fs_linearize_histories.specs.Histories.{Explains}
+use Rattle.fs_linearize_configurations.specs.code.Calls.{AreEach, AreUnderWay}
+use Rattle.fs_linearize_configurations.specs.code.Ways.{GoesBy, IsLed, Keeps}
 use Rattle.fs_linearize.specs.declared.depth_first.Choice.{Choice}
 use Rattle.fs_linearize.specs.declared.depth_first.Here.{Here}
-use Rattle.fs_configurations.specs.declared.reached.Reached.{Reached}
-use Rattle.fs_configurations.specs.declared.steps.Link.{Link}
-use Rattle.fs_configurations.specs.declared.steps.Step.{Step}
+use Rattle.fs_linearize_configurations.specs.declared.reached.Reached.{Reached}
+use Rattle.fs_linearize_configurations.specs.declared.steps.Link.{Link}
+use Rattle.fs_linearize_configurations.specs.declared.steps.Step.{Step}
 use Rattle.fs_linearize.specs.declared.turns.Turn.{Turn}
 
 -- a configuration is led to, and these calls are under way there

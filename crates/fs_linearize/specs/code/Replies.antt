@@ -2,11 +2,11 @@
 use Rattle.std.specs.Prelude.{ℕ, List, [], ◌∷◌, ◌++◌}
 use Rattle.fs_calls.specs.Starts.{Start}
 use Rattle.fs_timeline.specs.declared.entry.Entry.{Entry}
-use Rattle.fs_histories.specs.declared.heard.Heard.{Heard}
-use Rattle.fs_histories.specs.declared.heard.Heard.TheVariants.{Return}
-use Rattle.fs_histories.specs.declared.heard.Pattern.{Pattern}
-use Rattle.fs_histories.specs.Heard.{Matches}
-use Rattle.fs_histories.specs.Histories.{Explains, CouldReply}
+use Rattle.fs_linearize_histories.specs.declared.heard.Heard.{Heard}
+use Rattle.fs_linearize_histories.specs.declared.heard.Heard.TheVariants.{Return}
+use Rattle.fs_linearize_histories.specs.declared.heard.Pattern.{Pattern}
+use Rattle.fs_linearize_histories.specs.Heard.{Matches}
+use Rattle.fs_linearize_histories.specs.Histories.{Explains, CouldReply}
 use Rattle.fs_linearize.specs.Limited.{WasLimited}
 use Rattle.fs_linearize.specs.declared.replies.Another.{Another}
 use Rattle.fs_linearize.specs.declared.replies.Another.TheVariants.{Is, No, Limited}

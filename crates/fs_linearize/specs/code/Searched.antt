@@ -2,9 +2,9 @@
 use Rattle.std.specs.Prelude.{◌≡◌, ℕ, List, take, None}
 use Rattle.fs_calls.specs.Starts.{Start}
 use Rattle.fs_timeline.specs.declared.entry.Entry.{Entry}
-use Rattle.fs_histories.specs.declared.heard.Heard.{Heard}
-use Rattle.fs_histories.specs.Histories.{HasNoOrder, HasNoFront, Explains}
-use Rattle.fs_configurations.specs.code.Ways.{GoesBy}
+use Rattle.fs_linearize_histories.specs.declared.heard.Heard.{Heard}
+use Rattle.fs_linearize_histories.specs.Histories.{HasNoOrder, HasNoFront, Explains}
+use Rattle.fs_linearize_configurations.specs.code.Ways.{GoesBy}
 use Rattle.fs_linearize.specs.Limited.{WasLimited}
 use Rattle.fs_linearize.specs.Results.{IsReturnAt, IsAnswerFor, IsKnownAbove, TellsLinearizable, fault_in}
 use Rattle.fs_linearize.specs.declared.search.Searched.{Searched}

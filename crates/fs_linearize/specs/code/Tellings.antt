@@ -6,16 +6,16 @@ use Rattle.fs_calls.specs.declared.reply.Reply.{Reply}
 use Rattle.fs_timeline.specs.Timeline.{has_committed, commits, due, IsWellFormed, IsLawful}
 use Rattle.fs_timeline.specs.declared.entry.Entry.{Entry}
 use Rattle.fs_timeline.specs.declared.entry.Entry.TheVariants.{Commit}
-use Rattle.fs_histories.specs.declared.heard.Heard.{Heard}
-use Rattle.fs_histories.specs.declared.heard.Pattern.{Pattern}
-use Rattle.fs_histories.specs.Heard.{IsHeardAs, Matches}
-use Rattle.fs_histories.specs.Histories.{Explains}
-use Rattle.fs_configurations.specs.code.Ways.{GoesBy}
+use Rattle.fs_linearize_histories.specs.declared.heard.Heard.{Heard}
+use Rattle.fs_linearize_histories.specs.declared.heard.Pattern.{Pattern}
+use Rattle.fs_linearize_histories.specs.Heard.{IsHeardAs, Matches}
+use Rattle.fs_linearize_histories.specs.Histories.{Explains}
+use Rattle.fs_linearize_configurations.specs.code.Ways.{GoesBy}
 use Rattle.fs_linearize.specs.declared.telling.Kept.{Kept}
 use Rattle.fs_linearize.specs.declared.telling.Played.{Played}
 use Rattle.fs_linearize.specs.declared.telling.Telling.{Telling}
-use Rattle.fs_configurations.specs.declared.steps.Step.{Step}
-use Rattle.fs_configurations.specs.declared.steps.Step.TheVariants.{Passes, Commits}
+use Rattle.fs_linearize_configurations.specs.declared.steps.Step.{Step}
+use Rattle.fs_linearize_configurations.specs.declared.steps.Step.TheVariants.{Passes, Commits}
 
 -- what is played is a journal, and the reply is the one that is due, once the call has committed
 pub record IsPlayed (start : Start) (c : ℕ) (es : List Entry) (p : Played) : Type 0 where

@@ -1,7 +1,7 @@
 -- The form of the files of a store with sibling links.
 use Rattle.std.specs.Prelude.{Bool, List, [], ◌∷◌}
-use Rattle.fs_plain.specs.code.Edits.{HasForm}
-use Rattle.fs_places.specs.declared.place.Place.{Place}
+use Rattle.fs_nodes_places.specs.code.PlainEdits.{HasForm}
+use Rattle.fs_nodes_places.specs.declared.place.Place.{Place}
 
 -- each file of some places is in blocks, or each is in one vector
 abbrev pub HaveForm : Bool → List Place → Type 0

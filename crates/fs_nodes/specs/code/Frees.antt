@@ -1,10 +1,10 @@
 -- The free places of a store, as a list.
 use Rattle.std.specs.Prelude.{ℕ, ◌≡◌, ◌≤◌, Bool, true, false, eqb, if◌then◌else◌, List, [], ◌∷◌, Option, Some, None, length, slice_get}
 use Rattle.fs_names.specs.declared.limits.TheConstants.{NODE_LIMIT}
-use Rattle.fs_plain.specs.declared.node.Node.{Node}
-use Rattle.fs_places.specs.declared.place.Place.{Place}
-use Rattle.fs_graph.specs.Graphs.{then_at}
-use Rattle.fs_places.specs.Plains.{plains}
+use Rattle.fs_nodes_places.specs.declared.node.Node.{Node}
+use Rattle.fs_nodes_places.specs.declared.place.Place.{Place}
+use Rattle.fs_calls.specs.Graphs.{then_at}
+use Rattle.fs_nodes_places.specs.Plains.{plains}
 use Rattle.fs_nodes.specs.code.Linked.{IsPlaces}
 
 -- whether a number is in a list

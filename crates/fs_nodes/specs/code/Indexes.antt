@@ -2,7 +2,7 @@
 use Rattle.std.specs.Prelude.{ℕ, ◌≡◌, ◌+◌, ◌-◌, ◌*◌, ◌<◌, ◌≤◌, eqb, ◌&&◌, is_some, cond, bit_and, List, Option, Some, None, length, slice_index_or, slice_set}
 use Rattle.std.specs.List.{sum_by}
 use Rattle.fs_names.specs.declared.limits.TheConstants.{NODE_LIMIT}
-use Rattle.fs_places.specs.declared.key.Key.{Key}
+use Rattle.fs_nodes_places.specs.declared.key.Key.{Key}
 use Rattle.fs_nodes.specs.declared.index.Slot.{Slot}
 use Rattle.fs_nodes.specs.declared.index.Found.{Found}
 use Rattle.fs_nodes.specs.declared.index.Found.TheVariants as founds

@@ -4,13 +4,13 @@ use Rattle.std.specs.List.{find}
 use Rattle.fs_names.specs.Names.{Name}
 use Rattle.fs_names.specs.Shapes.{names_of}
 use Rattle.fs_names.specs.declared.limits.TheConstants.{NODE_LIMIT}
-use Rattle.fs_plain.specs.declared.node.Link.{Link}
-use Rattle.fs_places.specs.declared.place.Place.{Place}
-use Rattle.fs_graph.specs.Graphs.{Graph, then_at}
-use Rattle.fs_places.specs.code.Edits.{edited}
-pub use Rattle.fs_places.specs.code.Hints.{bare, bared}
-use Rattle.fs_places.specs.Plains.{plain, plains}
-use Rattle.fs_plain.specs.Stores.{link_of, is_in, graph_in, is_above, names_above, IsStore}
+use Rattle.fs_nodes_places.specs.declared.node.Link.{Link}
+use Rattle.fs_nodes_places.specs.declared.place.Place.{Place}
+use Rattle.fs_calls.specs.Graphs.{Graph, then_at}
+use Rattle.fs_nodes_places.specs.code.Edits.{edited}
+pub use Rattle.fs_nodes_places.specs.code.Hints.{bare, bared}
+use Rattle.fs_nodes_places.specs.Plains.{plain, plains}
+use Rattle.fs_nodes_places.specs.Stores.{link_of, is_in, graph_in, is_above, names_above, IsStore}
 
 -- the graph that places are
 abbrev pub graph_of_places : List Place → Graph

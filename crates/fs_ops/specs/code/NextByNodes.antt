@@ -11,11 +11,11 @@ use Rattle.fs_walk.specs.Ways.{Way, ForkWay}
 use Rattle.fs_walk.specs.Wants.{want, fork_want}
 use Rattle.fs_walk.specs.declared.want.Want.{Want}
 use Rattle.fs_walk.specs.declared.want.Want.TheVariants as wants
-use Rattle.fs_finish.specs.Paths.{first_path}
-use Rattle.fs_finish.specs.Plans.{entry_plan}
-use Rattle.fs_finish.specs.declared.plan.Route.{Route}
-use Rattle.fs_finish.specs.declared.plan.Plan.{Plan}
-use Rattle.fs_finish.specs.declared.plan.Plan.TheVariants.{Fails, Answers}
+use Rattle.fs_ops_effects.specs.Paths.{first_path}
+use Rattle.fs_ops_effects.specs.Plans.{entry_plan}
+use Rattle.fs_ops_effects.specs.declared.plan.Route.{Route}
+use Rattle.fs_ops_effects.specs.declared.plan.Plan.{Plan}
+use Rattle.fs_ops_effects.specs.declared.plan.Plan.TheVariants.{Fails, Answers}
 use Rattle.fs_machine.specs.Moves.{same_kind, victim_of}
 use Rattle.fs_ops.specs.declared.next.Next.{Next}
 use Rattle.fs_ops.specs.declared.next.Next.TheVariants.{Take as Takes, LetGo as Leaves, Finish as Finishes, Return as Ends}

@@ -1,6 +1,6 @@
 -- What is made of the text of a script, before it is written.
 use Rattle.std.specs.Prelude.{◌≡◌, ℕ, Bool, List, true, Result, Ok, IfOk, OnOk, IfErr}
-use Rattle.fs_io.specs.declared.shell.Made.{Made}
+use Rattle.fs_verdict.specs.declared.shell.Made.{Made}
 use Rattle.fs_script.specs.Script.{script_of}
 use Rattle.fs_script.specs.declared.script.Script.{Script}
 use Rattle.fs_sched.specs.Devices.{IsFaultOf}

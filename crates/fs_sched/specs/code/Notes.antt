@@ -7,10 +7,10 @@ use Rattle.fs_script.specs.declared.script.Word.{Word}
 use Rattle.fs_sched.specs.declared.schedule.Schedule.{Schedule}
 use Rattle.fs_sched.specs.Runs.{Stage}
 use Rattle.fs_sched.specs.Moments.{AnswersEvent, AreMoments, words_of, AreOfWords, AnswersToEnd, TellsFrom}
-use Rattle.fs_witness.specs.Moments.{Hears, event_of, spent_of}
-use Rattle.fs_witness.specs.declared.moments.Answer.{Answer}
-use Rattle.fs_witness.specs.declared.moments.Answer.TheVariants.{Spent}
-use Rattle.fs_witness.specs.declared.moments.Moment.{Moment}
+use Rattle.fs_sched_witness.specs.Moments.{Hears, event_of, spent_of}
+use Rattle.fs_sched_witness.specs.declared.moments.Answer.{Answer}
+use Rattle.fs_sched_witness.specs.declared.moments.Answer.TheVariants.{Spent}
+use Rattle.fs_sched_witness.specs.declared.moments.Moment.{Moment}
 
 -- moments of these words have come, and were told
 abbrev pub Notes : {A : Type 0} → (A → A → List Moment → Type 0) → List (List Call) → Stage → A → List Word → Stage → A → Type 0

@@ -7,8 +7,8 @@ use Rattle.fs_names.specs.declared.kind.Kind.TheVariants.{Dir}
 use Rattle.fs_calls.specs.Tree.{Tree, root_tree}
 use Rattle.fs_calls.specs.Starts.{Start}
 use Rattle.fs_timeline.specs.declared.entry.Entry.{Entry}
-use Rattle.fs_rows.specs.declared.rows.Row.{Row}
-use Rattle.fs_rows.specs.Rows.{key_of, row_of, fits}
+use Rattle.fs_seq.specs.declared.rows.Row.{Row}
+use Rattle.fs_seq.specs.Rows.{key_of, row_of, fits}
 use Rattle.fs_words.specs.Reading.{fault_at}
 use Rattle.fs_words.specs.declared.fault.ScriptFault.{ScriptFault}
 use Rattle.fs_words.specs.declared.fault.FaultKind.{FaultKind}

@@ -8,8 +8,8 @@ use Rattle.fs_names.specs.Shapes.{Shape}
 use Rattle.fs_names.specs.Shapes as shapes
 use Rattle.fs_calls.specs.Tree.{Node}
 use Rattle.fs_calls.specs.Tree as tree
-use Rattle.fs_slab.specs.code.Slots.{Place, links_at, child, keys_from, nodes_at}
-use Rattle.fs_slab.specs.code.Slots as forest
+use Rattle.fs_seq_nodes.specs.code.Slots.{Place, links_at, child, keys_from, nodes_at}
+use Rattle.fs_seq_nodes.specs.code.Slots as forest
 use Rattle.fs_nodes.specs.Graphs.{Graph, Children}
 use Rattle.fs_nodes.specs.Seen.{Seen}
 use Rattle.fs_nodes.specs.Stores.{is_above}

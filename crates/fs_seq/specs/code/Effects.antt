@@ -15,8 +15,8 @@ use Rattle.fs_calls.specs.declared.target.EntryCall.{EntryCall}
 use Rattle.fs_calls.specs.declared.target.EntryCall.TheVariants.{Mkdir, Mknod, Unlink, Rmdir}
 use Rattle.fs_calls.specs.Rows.{entry_fault, node_fault, node_row, written}
 use Rattle.fs_seq.specs.Memory.{needs_memory}
-use Rattle.fs_slab.specs.code.Slots.{Place, Dir, File, Slots, place_at, links_at, links_of, shape_of, walk, tree_of, IsForest, KeepsForm, Sets}
-use Rattle.fs_slab.specs.code.Nodes.{BelongsAt, IsTaken}
+use Rattle.fs_seq_nodes.specs.code.Slots.{Place, Dir, File, Slots, place_at, links_at, links_of, shape_of, walk, tree_of, IsForest, KeepsForm, Sets}
+use Rattle.fs_seq_nodes.specs.code.Nodes.{BelongsAt, IsTaken}
 use Rattle.fs_calls.specs.declared.call.Call.{Call}
 use Rattle.fs_calls.specs.declared.call.Call.TheVariants as calls
 use Rattle.fs_calls.specs.declared.reply.Reply.{Reply}

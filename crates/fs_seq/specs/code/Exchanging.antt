@@ -4,9 +4,9 @@ use Rattle.fs_names.specs.Names.{Name}
 use Rattle.fs_names.specs.Keys.{Key}
 use Rattle.fs_calls.specs.declared.call.Call.TheVariants.{Exchange}
 use Rattle.fs_calls.specs.declared.errno.Errno.{Errno}
-use Rattle.fs_slab.specs.declared.nodes.Entry.{Entry}
-use Rattle.fs_slab.specs.code.Slots.{Slots, Dir, links_at, tree_of, Sets}
-use Rattle.fs_slab.specs.code.Nodes.{name_of, IsAt}
+use Rattle.fs_seq_nodes.specs.declared.nodes.Entry.{Entry}
+use Rattle.fs_seq_nodes.specs.code.Slots.{Slots, Dir, links_at, tree_of, Sets}
+use Rattle.fs_seq_nodes.specs.code.Nodes.{name_of, IsAt}
 use Rattle.fs_seq.specs.code.Effects.{HasFault}
 
 -- the entries at both paths of an exchange without an error; or the first error

@@ -3,12 +3,12 @@ use Rattle.std.specs.Prelude.{◌≡◌, ◌≢◌, ℕ, insert, remove, slice_s
 use Rattle.fs_names.specs.Names.{Name}
 use Rattle.fs_names.specs.Keys.{Key}
 use Rattle.fs_names.specs.declared.limits.Limits.{Limits}
-use Rattle.fs_slab.specs.code.Slots.{Slots, Dir, links_at, tree_of, Sets}
-use Rattle.fs_slab.specs.code.Nodes.{IsFree, IsAt}
+use Rattle.fs_seq_nodes.specs.code.Slots.{Slots, Dir, links_at, tree_of, Sets}
+use Rattle.fs_seq_nodes.specs.code.Nodes.{IsFree, IsAt}
 use Rattle.fs_seq.specs.code.Effects.{HasFaultBy}
 use Rattle.fs_calls.specs.declared.call.Call.TheVariants.{Rename}
 use Rattle.fs_calls.specs.declared.errno.Errno.{Errno}
-use Rattle.fs_slab.specs.declared.nodes.Entry.{Entry}
+use Rattle.fs_seq_nodes.specs.declared.nodes.Entry.{Entry}
 use Rattle.fs_seq.specs.declared.rename.Plan.{Plan}
 use Rattle.fs_seq.specs.declared.rename.Plan.TheVariants.{Stay, Onto, Within, Across}
 

@@ -1,10 +1,10 @@
 -- What is added to the text of a trace, and its part up to the tree.
 use Rattle.std.specs.Prelude.{ℕ, ◌≡◌, Bool, List, [], ◌++◌, map, codes}
 use Rattle.std.specs.List.{flat_map}
-use Rattle.fs_story.specs.Shown.{Saying}
+use Rattle.fs_trace_story.specs.Shown.{Saying}
 use Rattle.fs_trace.specs.Traces.{thread_line, line_head, AreLines, heads_shown}
 use Rattle.fs_trace.specs.declared.trace_text.TraceLines.{TraceLines}
-use Rattle.fs_witness.specs.declared.moments.Moment.{Moment}
+use Rattle.fs_sched_witness.specs.declared.moments.Moment.{Moment}
 
 -- a text has a line behind it that begins so
 abbrev pub AddsLine : List ℕ → List ℕ → List ℕ → Type 0

@@ -1,9 +1,9 @@
 -- What is made of the text of an input, before it is written.
 use Rattle.std.specs.Prelude.{ℕ, ◌≡◌, Bool, true, List, Result, IfOk, IfErr}
-use Rattle.fs_io.specs.declared.shell.Made.{Made}
+use Rattle.fs_verdict.specs.declared.shell.Made.{Made}
 use Rattle.fs_verdict.specs.declared.fault.RunFault.{RunFault}
 use Rattle.fs_verdict.specs.declared.fault.RunFault.TheVariants.{OutOfMemory}
-use Rattle.fs_witness.specs.declared.moments.Moment.{Moment}
+use Rattle.fs_sched_witness.specs.declared.moments.Moment.{Moment}
 use Rattle.fs_words.specs.Headers.{is_too_long}
 use Rattle.fs_sched.specs.declared.running.RunEnd.{RunEnd}
 use Rattle.fs_sched.specs.declared.schedule.Schedule.{Schedule}

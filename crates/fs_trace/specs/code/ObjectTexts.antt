@@ -1,12 +1,12 @@
 -- What is added to the objects of a trace.
 use Rattle.std.specs.Prelude.{ℕ, ◌≡◌, Bool, List, [], ◌++◌, Result, IfOk, IfErr}
 use Rattle.std.specs.List.{flat_map}
-use Rattle.fs_io.specs.declared.shell.Made.{Made}
-use Rattle.fs_json.specs.Objects.{Member, object_text}
+use Rattle.fs_verdict.specs.declared.shell.Made.{Made}
+use Rattle.fs_words.specs.JsonObjects.{Member, object_text}
 use Rattle.fs_sched.specs.Runs.{IsFaultOfRun}
 use Rattle.fs_sched.specs.declared.running.RunEnd.{RunEnd}
 use Rattle.fs_sched.specs.declared.schedule.Schedule.{Schedule}
-use Rattle.fs_story.specs.Shown.{Saying}
+use Rattle.fs_trace_story.specs.Shown.{Saying}
 use Rattle.fs_trace.specs.Objects.{AreObjects, AreObjectsOf, IsObjectOf, thread_object}
 use Rattle.fs_trace.specs.declared.objects.TraceObjects.{TraceObjects}
 use Rattle.fs_verdict.specs.declared.fault.RunFault.{RunFault}

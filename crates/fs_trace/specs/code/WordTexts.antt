@@ -11,7 +11,7 @@ use Rattle.fs_sched.specs.Gives.{given_words}
 use Rattle.fs_trace.specs.Traces.{busy_words, AreWordTexts, IsGap}
 use Rattle.fs_trace.specs.declared.script_text.RunWords.{RunWords}
 use Rattle.fs_trace.specs.declared.script_text.TheConstants.{LINE_WIDTH}
-use Rattle.fs_witness.specs.declared.moments.Moment.{Moment}
+use Rattle.fs_sched_witness.specs.declared.moments.Moment.{Moment}
 
 -- ---- words of a run
 

@@ -1,9 +1,9 @@
 -- What is made of the text of a journal, before it is written.
 use Rattle.std.specs.Prelude.{◌≡◌, ℕ, true, List, [], Result, Ok, IfOk, IfErr}
 use Rattle.fs_timeline.specs.declared.verdict.Verdict.{Verdict}
-use Rattle.fs_io.specs.declared.shell.Made.{Made}
+use Rattle.fs_verdict.specs.declared.shell.Made.{Made}
 use Rattle.fs_verdict.specs.Checks.{is_lawful, verdict_line, verdict_of}
-use Rattle.fs_verdict.specs.Devices.{IsFaultOf}
+use Rattle.fs_verdict.specs.InputFaults.{IsFaultOf}
 use Rattle.fs_verdict.specs.declared.checking.Checked.{Checked}
 use Rattle.fs_verdict.specs.declared.fault.RunFault.{RunFault}
 

@@ -1,6 +1,6 @@
 use Rattle.std.proofs.Common.{rules, ◌≡◌, ℕ, Bool, List, Option, Some, IsSomeAnd, sym, subst}
 use Rattle.fs_sched.specs.declared.schedule.Schedule.{Schedule}
-use Rattle.fs_page.specs.Pages.{IsPageOf}
+use Rattle.fs_draw_page.specs.Pages.{IsPageOf}
 use Rattle.fs_embed.specs.Numbered.{schedule_of}
 use Rattle.fs_embed.specs.Told.{Tells}
 use Rattle.atomfs_c.proofs.tools.atomfs_page.Goals as goal

@@ -6,8 +6,8 @@ use Rattle.fs_calls.specs.Tree.{Tree}
 use Rattle.fs_names.specs.Limits.{in_blocks}
 use Rattle.fs_nodes.specs.Seen.{Seen}
 use Rattle.fs_nodes.specs.Stores.{graph_of, used_below}
-use Rattle.fs_rows.specs.declared.rows.Row.{Row}
-use Rattle.fs_rows.specs.Rows.{row_of, misfit}
+use Rattle.fs_seq.specs.declared.rows.Row.{Row}
+use Rattle.fs_seq.specs.Rows.{row_of, misfit}
 use Rattle.fs_locks.specs.Holding.{room}
 use Rattle.fs_machine.specs.States.{IsStart}
 use Rattle.fs_core.specs.code.Filling.{IsAdded}

@@ -2,7 +2,7 @@ use Rattle.std.proofs.Common.{◌≡◌, None, map, take}
 use Rattle.fs_names.specs.Limits.{in_blocks}
 use Rattle.fs_nodes.specs.Seen.{seen}
 use Rattle.fs_nodes.specs.Stores.{graph_of, used_below}
-use Rattle.fs_rows.specs.Rows.{row_of}
+use Rattle.fs_seq.specs.Rows.{row_of}
 use Rattle.fs_locks.specs.Holding.{holder, room}
 use Rattle.fs_machine.specs.States.{IsStart}
 use Rattle.fs_core_seats.specs.code.Searches.{AreBelow}

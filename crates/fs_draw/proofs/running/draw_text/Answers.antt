@@ -1,5 +1,5 @@
 use Rattle.std.proofs.Common.{◌≡◌, ℕ, Bool, List, Result, Err, sym, subst, rules}
-use Rattle.fs_io.specs.declared.shell.Made.{Made}
+use Rattle.fs_verdict.specs.declared.shell.Made.{Made}
 use Rattle.fs_draw.specs.Faults.{IsFaultOfPicture}
 use Rattle.fs_draw.specs.code.Mades.{MakesPicture}
 use Rattle.fs_draw.specs.declared.fault.DrawFault.{DrawFault}

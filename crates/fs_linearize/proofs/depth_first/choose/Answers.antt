@@ -1,6 +1,6 @@
 use Rattle.std.proofs.Common.{List, subst}
 use Rattle.std.specs.List.{Contains}
-use Rattle.fs_configurations.specs.declared.under_way.UnderWay.{UnderWay}
+use Rattle.fs_linearize_configurations.specs.declared.under_way.UnderWay.{UnderWay}
 use Rattle.fs_linearize.proofs.depth_first.choose.Goals as goal
 
 pub returns : goal.returns

@@ -1,8 +1,8 @@
 use Rattle.std.proofs.Common.{List, sym, subst, ◌∙◌}
-use Rattle.fs_configurations.specs.code.Calls.{AreEach}
+use Rattle.fs_linearize_configurations.specs.code.Calls.{AreEach}
 use Rattle.fs_linearize.specs.declared.depth_first.Choice.{Choice}
 use Rattle.fs_linearize.specs.declared.depth_first.Here.{Here}
-use Rattle.fs_configurations.specs.declared.under_way.UnderWay.{UnderWay}
+use Rattle.fs_linearize_configurations.specs.declared.under_way.UnderWay.{UnderWay}
 use Rattle.fs_linearize.proofs.DepthFirstLemmas.{here_kept, choices_kept, choices_push, choices_pop, taken_up, way_some}
 use Rattle.fs_linearize.proofs.depth_first.go_back.Goals as goal
 

@@ -1,6 +1,6 @@
 use Rattle.std.proofs.Common.{List, vec_len}
 use Rattle.fs_calls.specs.Starts.{Start}
-use Rattle.fs_histories.specs.declared.heard.Heard.{Heard}
+use Rattle.fs_linearize_histories.specs.declared.heard.Heard.{Heard}
 use Rattle.fs_linearize.specs.code.DepthFirst.{AreChoices}
 use Rattle.fs_linearize.proofs.depth_first.go_back.Given as goal
 

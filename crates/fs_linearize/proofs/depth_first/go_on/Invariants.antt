@@ -1,6 +1,6 @@
 use Rattle.std.proofs.Common.{◌≡◌}
 use Rattle.fs_calls.specs.Starts.{Start}
-use Rattle.fs_histories.specs.Histories.{IsHistory}
+use Rattle.fs_linearize_histories.specs.Histories.{IsHistory}
 use Rattle.fs_linearize.specs.code.DepthFirst.{IsHere, GoesOn}
 use Rattle.fs_linearize.proofs.depth_first.go_on.Given as goal
 

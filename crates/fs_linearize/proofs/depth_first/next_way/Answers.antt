@@ -1,8 +1,8 @@
 use Rattle.std.proofs.Common.{List, sym, subst}
 use Rattle.std.specs.List.{Contains}
-use Rattle.fs_configurations.specs.code.Calls.{AreEach}
-use Rattle.fs_configurations.specs.declared.under_way.UnderWay.{UnderWay}
-use Rattle.fs_configurations.proofs.WayLemmas.{keeps_on}
+use Rattle.fs_linearize_configurations.specs.code.Calls.{AreEach}
+use Rattle.fs_linearize_configurations.specs.declared.under_way.UnderWay.{UnderWay}
+use Rattle.fs_linearize_configurations.proofs.WayLemmas.{keeps_on}
 use Rattle.fs_linearize.proofs.DepthFirstLemmas.{reached_some}
 use Rattle.fs_linearize.proofs.depth_first.next_way.Goals as goal
 

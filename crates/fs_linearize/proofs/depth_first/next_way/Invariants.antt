@@ -1,8 +1,8 @@
 use Rattle.std.proofs.Common.{List}
 use Rattle.fs_calls.specs.Starts.{Start}
-use Rattle.fs_histories.specs.declared.heard.Heard.{Heard}
-use Rattle.fs_configurations.specs.code.Calls.{AreEach}
-use Rattle.fs_configurations.specs.code.Ways.{Keeps}
+use Rattle.fs_linearize_histories.specs.declared.heard.Heard.{Heard}
+use Rattle.fs_linearize_configurations.specs.code.Calls.{AreEach}
+use Rattle.fs_linearize_configurations.specs.code.Ways.{Keeps}
 use Rattle.fs_linearize.specs.code.DepthFirst.{IsHere}
 use Rattle.fs_linearize.proofs.depth_first.next_way.Given as goal
 

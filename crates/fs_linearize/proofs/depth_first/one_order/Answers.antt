@@ -1,6 +1,6 @@
 use Rattle.std.proofs.Common.{◌≡◌, List, length, sym, subst, ◌∙◌}
-use Rattle.fs_configurations.specs.code.Ways.{GoesBack}
-use Rattle.fs_configurations.specs.declared.steps.Link.{Link}
+use Rattle.fs_linearize_configurations.specs.code.Ways.{GoesBack}
+use Rattle.fs_linearize_configurations.specs.declared.steps.Link.{Link}
 use Rattle.fs_linearize.proofs.DepthFirstLemmas.{choices_kept, choices_push, choices_fewer, no_choices, here_some}
 use Rattle.fs_linearize.proofs.FindingLemmas.{explains_led}
 use Rattle.fs_linearize.proofs.depth_first.one_order.Goals as goal

@@ -1,7 +1,7 @@
 use Rattle.std.proofs.Common.{◌+◌, List, slice_get, sym, ap, subst, ◌∙◌}
-use Rattle.fs_configurations.specs.code.Calls.{AreEach, AreUnderWay}
+use Rattle.fs_linearize_configurations.specs.code.Calls.{AreEach, AreUnderWay}
 use Rattle.fs_linearize.specs.declared.depth_first.Here.{Here}
-use Rattle.fs_configurations.specs.declared.under_way.UnderWay.{UnderWay}
+use Rattle.fs_linearize_configurations.specs.declared.under_way.UnderWay.{UnderWay}
 use Rattle.fs_linearize.proofs.DepthFirstLemmas.{here_passed}
 use Rattle.fs_linearize.proofs.depth_first.pass.Goals as goal
 

@@ -1,8 +1,8 @@
 use Rattle.std.proofs.Common.{List, take, sym, subst, ◌∙◌}
 use Rattle.fs_timeline.specs.declared.entry.Entry.{Entry}
-use Rattle.fs_histories.specs.Heard.{entries}
+use Rattle.fs_linearize_histories.specs.Heard.{entries}
 use Rattle.fs_linearize.specs.code.Knowing.{IsKnown}
-use Rattle.fs_configurations.proofs.HeardLemmas.{entries_more}
+use Rattle.fs_linearize_configurations.proofs.HeardLemmas.{entries_more}
 use Rattle.fs_linearize.proofs.HeardLemmas.{fault_here, fault_later, fault_never}
 use Rattle.fs_linearize.proofs.faults.first_fault.Goals as goal
 

@@ -1,6 +1,6 @@
 use Rattle.std.proofs.Common.{◌≡◌, ◌+◌, take, drop}
-use Rattle.fs_histories.specs.Heard.{entries}
-use Rattle.fs_histories.specs.Faults.{fault_from, history_fault}
+use Rattle.fs_linearize_histories.specs.Heard.{entries}
+use Rattle.fs_linearize_histories.specs.Faults.{fault_from, history_fault}
 use Rattle.fs_linearize.specs.code.Knowing.{IsKnown}
 use Rattle.fs_linearize.proofs.faults.first_fault.Given as goal
 

@@ -1,5 +1,5 @@
 use Rattle.std.proofs.Common.{◌-◌, ◌<◌, length, Some, ap, ◌∙◌, arith}
-use Rattle.fs_histories.proofs.PrefixLemmas.{history_take}
+use Rattle.fs_linearize_histories.proofs.PrefixLemmas.{history_take}
 use Rattle.fs_linearize.proofs.FindingLemmas.{here_at}
 use Rattle.fs_linearize.proofs.PlaceLemmas.{narrows_first, narrowed, never_begin}
 use Rattle.fs_linearize.proofs.first_return.first_place.Goals as goal

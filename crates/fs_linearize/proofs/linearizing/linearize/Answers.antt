@@ -1,7 +1,7 @@
 use Rattle.std.proofs.Common.{◌≡◌, None, subst, sym, ap, ◌∙◌}
-use Rattle.fs_histories.specs.Faults.{history_fault}
-use Rattle.fs_histories.specs.Histories.{IsHistory}
-use Rattle.fs_histories.proofs.FaultLemmas.{faults_are_first}
+use Rattle.fs_linearize_histories.specs.Faults.{history_fault}
+use Rattle.fs_linearize_histories.specs.Histories.{IsHistory}
+use Rattle.fs_linearize_histories.proofs.FaultLemmas.{faults_are_first}
 use Rattle.fs_linearize.proofs.PlaceLemmas.{cut_whole, limited_above}
 use Rattle.fs_linearize.proofs.LinearizableLemmas.{fault_refuses, searched_tells}
 use Rattle.fs_linearize.proofs.linearizing.linearize.Goals as goal

@@ -1,7 +1,7 @@
 use Rattle.std.proofs.Common.{◌++◌, ◌∷◌, [], List, subst, sym}
-use Rattle.fs_histories.specs.Histories.{IsHistory}
-use Rattle.fs_histories.specs.declared.heard.Heard.{Heard}
-use Rattle.fs_histories.specs.declared.heard.Heard.TheVariants.{Return}
+use Rattle.fs_linearize_histories.specs.Histories.{IsHistory}
+use Rattle.fs_linearize_histories.specs.declared.heard.Heard.{Heard}
+use Rattle.fs_linearize_histories.specs.declared.heard.Heard.TheVariants.{Return}
 use Rattle.fs_linearize.proofs.PlaceLemmas.{some_place, place_at, limited_at, refused_at, refused_limited}
 use Rattle.fs_linearize.proofs.PossibleLemmas.{asked_history}
 use Rattle.fs_linearize.proofs.linearizing.refused.Goals as goal

@@ -1,5 +1,5 @@
 use Rattle.std.specs.Prelude.{option_copied}
-use Rattle.fs_histories.specs.Heard.{entries}
+use Rattle.fs_linearize_histories.specs.Heard.{entries}
 use Rattle.fs_linearize.proofs.BeginLemmas.{if_begun, item_there, heard_begins}
 use Rattle.fs_linearize.proofs.playing.call_at.Goals as goal
 

@@ -1,6 +1,6 @@
 use Rattle.std.proofs.Common.{◌≡◌, drop}
 use Rattle.fs_timeline.specs.Timeline.{call_of}
-use Rattle.fs_histories.specs.Heard.{entries}
+use Rattle.fs_linearize_histories.specs.Heard.{entries}
 use Rattle.fs_linearize.proofs.playing.call_of.Given as goal
 
 abbrev pub invariant-loop-entry : goal.invariant-loop-entry

@@ -3,7 +3,7 @@ use Rattle.fs_calls.specs.Outcomes.{next_start}
 use Rattle.fs_timeline.specs.Timeline.{with_call, reply_after}
 use Rattle.fs_linearize.specs.code.Tellings.{PlaysStep}
 use Rattle.fs_linearize.specs.declared.telling.Played.{Played}
-use Rattle.fs_configurations.specs.declared.steps.Step.{Step}
+use Rattle.fs_linearize_configurations.specs.declared.steps.Step.{Step}
 use Rattle.fs_linearize.proofs.PlayingLemmas.{plays_not_commit, plays_commit_of}
 use Rattle.fs_linearize.proofs.playing.play_step.Goals as goal
 

@@ -1,6 +1,6 @@
 use Rattle.std.proofs.Common.{List, subst, sym}
-use Rattle.fs_configurations.specs.code.Ways.{GoesBy}
-use Rattle.fs_configurations.specs.declared.steps.Step.{Step}
+use Rattle.fs_linearize_configurations.specs.code.Ways.{GoesBy}
+use Rattle.fs_linearize_configurations.specs.declared.steps.Step.{Step}
 use Rattle.fs_linearize.proofs.PossibleLemmas.{ends_by, is_another, some_due}
 use Rattle.fs_linearize.proofs.replies.one_more.Goals as goal
 

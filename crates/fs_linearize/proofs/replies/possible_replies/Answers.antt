@@ -1,9 +1,9 @@
 use Rattle.std.proofs.Common.{◌≡◌, ◌++◌, ◌∷◌, [], List, Vec, Global, length, refl, subst, sym, ap, ◌∙◌}
 use Rattle.fs_calls.specs.declared.reply.Reply.{Reply}
-use Rattle.fs_histories.specs.declared.heard.Heard.{Heard}
-use Rattle.fs_histories.specs.declared.heard.Heard.TheVariants.{Return}
-use Rattle.fs_histories.specs.declared.heard.Pattern.TheVariants.{Except}
-use Rattle.fs_histories.specs.Histories.{IsHistory}
+use Rattle.fs_linearize_histories.specs.declared.heard.Heard.{Heard}
+use Rattle.fs_linearize_histories.specs.declared.heard.Heard.TheVariants.{Return}
+use Rattle.fs_linearize_histories.specs.declared.heard.Pattern.TheVariants.{Except}
+use Rattle.fs_linearize_histories.specs.Histories.{IsHistory}
 use Rattle.fs_linearize.proofs.PossibleLemmas.{AreSome, some_none, goes_on_by, ends_all, ends_limited}
 use Rattle.fs_linearize.proofs.replies.possible_replies.Goals as goal
 

@@ -1,7 +1,7 @@
 use Rattle.std.proofs.Common.{refl, subst, List}
-use Rattle.fs_configurations.specs.code.Searching.{AddsIfNew}
-use Rattle.fs_configurations.specs.declared.reached.Reached.{Reached}
-use Rattle.fs_configurations.proofs.SearchLemmas.{first_added}
+use Rattle.fs_linearize_configurations.specs.code.Searching.{AddsIfNew}
+use Rattle.fs_linearize_configurations.specs.declared.reached.Reached.{Reached}
+use Rattle.fs_linearize_configurations.proofs.SearchLemmas.{first_added}
 use Rattle.fs_linearize.proofs.search.first_layer.Goals as goal
 
 pub returns : goal.returns

@@ -1,14 +1,14 @@
 use Rattle.std.proofs.Common.{◌≡◌, ◌≤◌, ◌+◌, ◌-◌, ◌++◌, true, false, List, [], length, slice_get, Some, None, option_copied, refl, sym, ap, subst, ◌∙◌, arith}
 use Rattle.std.specs.List.{Contains}
-use Rattle.fs_configurations.specs.code.Calls.{AreEach}
-use Rattle.fs_configurations.specs.code.Stopping.{is_held, Returns, CanPass}
-use Rattle.fs_configurations.specs.code.Ways.{GoesBack, configurations}
-use Rattle.fs_configurations.specs.declared.reached.Reached.{Reached}
-use Rattle.fs_configurations.specs.declared.steps.Link.{Link}
-use Rattle.fs_configurations.specs.declared.under_way.UnderWay.{UnderWay}
+use Rattle.fs_linearize_configurations.specs.code.Calls.{AreEach}
+use Rattle.fs_linearize_configurations.specs.code.Stopping.{is_held, Returns, CanPass}
+use Rattle.fs_linearize_configurations.specs.code.Ways.{GoesBack, configurations}
+use Rattle.fs_linearize_configurations.specs.declared.reached.Reached.{Reached}
+use Rattle.fs_linearize_configurations.specs.declared.steps.Link.{Link}
+use Rattle.fs_linearize_configurations.specs.declared.under_way.UnderWay.{UnderWay}
 use Rattle.fs_linearize.proofs.FindingLemmas.{stands_first, stands_on, widened, here_at, rest_at, never_none, was_limited, explains_at_end}
 use Rattle.fs_linearize.proofs.StoppingLemmas.{no_order_here, passes_some}
-use Rattle.fs_configurations.proofs.SearchLemmas.{contains_got}
+use Rattle.fs_linearize_configurations.proofs.SearchLemmas.{contains_got}
 use Rattle.fs_linearize.proofs.search.search_layers.Goals as goal
 
 pub loop-place-init : goal.loop-place-init

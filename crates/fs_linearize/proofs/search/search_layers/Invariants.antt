@@ -1,5 +1,5 @@
 use Rattle.std.proofs.Common.{List}
-use Rattle.fs_histories.specs.Configurations.{Configuration}
+use Rattle.fs_linearize_histories.specs.Configurations.{Configuration}
 use Rattle.fs_linearize.proofs.FindingLemmas.{Stands}
 use Rattle.fs_linearize.proofs.search.search_layers.Given as goal
 

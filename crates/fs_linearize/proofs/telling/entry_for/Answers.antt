@@ -1,5 +1,5 @@
 use Rattle.std.proofs.Common.{subst, sym}
-use Rattle.fs_histories.specs.declared.heard.Heard.{Heard}
+use Rattle.fs_linearize_histories.specs.declared.heard.Heard.{Heard}
 use Rattle.fs_linearize.specs.code.Tellings.{IsEntryFor}
 use Rattle.fs_timeline.specs.declared.entry.Entry.TheVariants.{Return}
 use Rattle.fs_linearize.proofs.TellingLemmas.{return_for}

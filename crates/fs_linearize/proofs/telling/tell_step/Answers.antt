@@ -1,5 +1,5 @@
 use Rattle.std.proofs.Common.{◌≡◌, ◌++◌, ◌∷◌, [], subst, sym, ap, ◌∙◌}
-use Rattle.fs_configurations.specs.declared.steps.Step.{Step}
+use Rattle.fs_linearize_configurations.specs.declared.steps.Step.{Step}
 use Rattle.fs_linearize.specs.code.Tellings.{TellsOn}
 use Rattle.fs_linearize.proofs.TellingLemmas.{tells_pass}
 use Rattle.fs_linearize.proofs.telling.tell_step.Goals as goal

@@ -1,11 +1,11 @@
 use Rattle.std.proofs.Common.{◌≡◌, ◌+◌, ◌<◌, ◌≤◌, ◌∙◌, List, [], ◌∷◌, ◌++◌, None, take, length, sym, subst, arith}
 use Rattle.std.proofs.lemmas.List.{take_all, length-take-le}
 use Rattle.fs_names.specs.declared.limits.TheConstants.{NODE_LIMIT}
-use Rattle.fs_places.specs.Plains.{plains}
+use Rattle.fs_nodes_places.specs.Plains.{plains}
 use Rattle.fs_nodes.specs.declared.index.Slot.{Slot}
-use Rattle.fs_places.specs.code.Keys.{keys_of}
+use Rattle.fs_nodes_places.specs.code.Keys.{keys_of}
 use Rattle.fs_nodes.specs.code.Indexes.{key_at, IsIndex}
-use Rattle.fs_places.proofs.EditLemmas.{read_place}
+use Rattle.fs_nodes_places.proofs.EditLemmas.{read_place}
 use Rattle.fs_nodes.proofs.IndexLemmas.{grown, key_more, no_key_more, no_key_yet}
 use Rattle.fs_nodes.proofs.KeyLemmas.{key_place, keys_length, keys_few, dir_below}
 use Rattle.fs_nodes.proofs.index.put_all.Goals as goal

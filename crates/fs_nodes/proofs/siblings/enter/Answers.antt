@@ -1,7 +1,7 @@
 use Rattle.std.proofs.Common.{sym, ap, get_or}
-use Rattle.fs_places.specs.declared.place.Place.{Place}
+use Rattle.fs_nodes_places.specs.declared.place.Place.{Place}
 use Rattle.fs_nodes.specs.code.Linked.{entered}
-use Rattle.fs_places.proofs.EditLemmas.{set_edited}
+use Rattle.fs_nodes_places.proofs.EditLemmas.{set_edited}
 use Rattle.fs_nodes.proofs.siblings.enter.Goals as goal
 
 pub returns : goal.returns

@@ -1,6 +1,6 @@
 use Rattle.std.proofs.Common.{◌∙◌, sym, ap, get_or, Option, ℕ}
 use Rattle.fs_nodes.specs.code.Linked.{with_prev, followed}
-use Rattle.fs_places.proofs.EditLemmas.{set_edited}
+use Rattle.fs_nodes_places.proofs.EditLemmas.{set_edited}
 use Rattle.fs_nodes.proofs.siblings.follow.Goals as goal
 
 pub returns-in-Some : goal.returns-in-Some

@@ -1,8 +1,8 @@
 use Rattle.std.proofs.Common.{sym, ap, get_or, Option, ℕ, ◌∙◌}
-use Rattle.fs_places.specs.declared.place.Place.{Place}
-use Rattle.fs_places.specs.code.Edits.{edited}
+use Rattle.fs_nodes_places.specs.declared.place.Place.{Place}
+use Rattle.fs_nodes_places.specs.code.Edits.{edited}
 use Rattle.fs_nodes.specs.code.Linked.{entered}
-use Rattle.fs_places.proofs.EditLemmas.{read_place, set_edited}
+use Rattle.fs_nodes_places.proofs.EditLemmas.{read_place, set_edited}
 use Rattle.fs_nodes.proofs.siblings.leave.Goals as goal
 
 pub returns-clause-places : goal.returns-clause-places

@@ -1,7 +1,7 @@
 use Rattle.std.proofs.Common.{◌<◌, arith}
 use Rattle.fs_names.specs.declared.limits.TheConstants.{NODE_LIMIT}
-use Rattle.fs_places.specs.Plains.{plains}
-use Rattle.fs_places.specs.code.Keys.{keys_of}
+use Rattle.fs_nodes_places.specs.Plains.{plains}
+use Rattle.fs_nodes_places.specs.code.Keys.{keys_of}
 use Rattle.fs_nodes.proofs.KeyLemmas.{entry_key, no_entry}
 use Rattle.fs_nodes.proofs.WalkLemmas.{entry_place, entry_below, named_child, some_entry}
 use Rattle.fs_nodes.proofs.siblings.look.Goals as goal

@@ -1,6 +1,6 @@
 use Rattle.std.proofs.Common.{◌≡◌, ◌∙◌, Some, slice_get, sym}
 use Rattle.fs_nodes.proofs.EntryLemmas.{parent_read, parent_none, linked_within, next_read, next_inside}
-use Rattle.fs_places.proofs.EditLemmas.{read_place}
+use Rattle.fs_nodes_places.proofs.EditLemmas.{read_place}
 use Rattle.fs_nodes.proofs.siblings.sibling_after.Goals as goal
 
 place : (c : goal.After-get) → slice_get c.args.places.now c.args.node ≡ Some c.index-places-node.result

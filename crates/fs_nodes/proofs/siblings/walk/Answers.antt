@@ -2,7 +2,7 @@ use Rattle.std.proofs.Common.{◌<◌, ◌≤◌, ◌+◌, ◌∙◌, ℕ, Optio
 use Rattle.fs_names.specs.Shapes.{names_of}
 use Rattle.fs_names.specs.declared.limits.TheConstants.{NODE_LIMIT}
 use Rattle.fs_nodes.specs.code.Linked.{graph_of_places, IsLesser}
-use Rattle.fs_places.specs.code.Spots.{one_of}
+use Rattle.fs_nodes_places.specs.code.Spots.{one_of}
 use Rattle.fs_nodes.proofs.StepLemmas.{dir_length, next_below}
 use Rattle.fs_nodes.proofs.BehindLemmas.{lesser_within, lesser_below}
 use Rattle.fs_nodes.proofs.WalkLemmas.{walk_first, walk_after, walk_more, walk_smaller, walk_within, walk_looks, walk_found, walk_past, walk_ends, walk_none, number_is, number_is_not}

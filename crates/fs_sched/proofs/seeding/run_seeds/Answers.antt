@@ -1,5 +1,5 @@
 use Rattle.std.proofs.Common.{refl, subst, Err, ap, ◌≡◌, ◌≢◌, ◌∙◌}
-use Rattle.fs_io.specs.declared.failure.Failure.TheVariants as failure
+use Rattle.fs_verdict.specs.declared.failure.Failure.TheVariants as failure
 use Rattle.fs_script.specs.Script.{script_of}
 use Rattle.fs_sched.specs.Devices.{IsFaultOf}
 use Rattle.fs_verdict.specs.declared.fault.RunFault.{RunFault}

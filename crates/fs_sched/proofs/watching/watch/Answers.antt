@@ -1,6 +1,6 @@
 use Rattle.std.proofs.Common.{◌++◌, List, length, refl, subst}
 use Rattle.fs_timeline.specs.declared.entry.Entry.{Entry}
-use Rattle.fs_witness.specs.Moments.{entries_told}
+use Rattle.fs_sched_witness.specs.Moments.{entries_told}
 use Rattle.fs_sched.specs.Laws.{AreOneRun}
 use Rattle.fs_machine.specs.States.{State}
 use Rattle.fs_sched.specs.Moments.{TellsFrom, TellsRun}

@@ -1,7 +1,7 @@
 use Rattle.std.proofs.Common.{sym, subst}
 use Rattle.fs_names.specs.declared.limits.Limits.TheVariants.{V1}
 use Rattle.fs_calls.specs.Starts.{Start}
-use Rattle.fs_rows.specs.Rows.{IsWithinLimits}
+use Rattle.fs_seq.specs.Rows.{IsWithinLimits}
 use Rattle.fs_script.proofs.StartLemmas.{root_within}
 use Rattle.fs_script.proofs.journal.from_root.Goals as goal
 

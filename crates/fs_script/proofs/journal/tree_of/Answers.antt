@@ -1,7 +1,7 @@
 use Rattle.std.proofs.Common.{◌≡◌, Some, refl, sym, subst}
 use Rattle.fs_calls.specs.Starts.{Start}
-use Rattle.fs_rows.specs.Rows.{misfit, IsWithinLimits}
-use Rattle.fs_rows.proofs.Fitting.{fitting_rows_are_trees}
+use Rattle.fs_seq.specs.Rows.{misfit, IsWithinLimits}
+use Rattle.fs_seq.proofs.Fitting.{fitting_rows_are_trees}
 use Rattle.fs_script.proofs.StartLemmas.{place_within, made, faulted}
 use Rattle.fs_script.proofs.journal.tree_of.Goals as goal
 

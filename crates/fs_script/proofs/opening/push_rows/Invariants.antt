@@ -1,7 +1,7 @@
 use Rattle.std.proofs.Common.{◌≡◌, ◌++◌, take, map}
 use Rattle.std.specs.List.{AllByRecursion, flat_map}
 use Rattle.fs_names.specs.Limits.{largest}
-use Rattle.fs_rows.specs.Rows.{row_of}
+use Rattle.fs_seq.specs.Rows.{row_of}
 use Rattle.fs_script.specs.TreeText.{node_line}
 use Rattle.fs_script.specs.Laws.{FitsNode}
 use Rattle.fs_script.proofs.opening.push_rows.Given as goal

@@ -1,5 +1,5 @@
 use Rattle.std.proofs.Common.{◌≡◌, ap, ◌∙◌, Result, Ok, Err, OnOk}
-use Rattle.fs_slab.specs.code.Slots.{tree_of}
+use Rattle.fs_seq_nodes.specs.code.Slots.{tree_of}
 use Rattle.fs_nodes.specs.Seen.{seen}
 use Rattle.fs_script.specs.code.Walks.{forest_of}
 use Rattle.fs_script.proofs.ForestLemmas.{store_tree}

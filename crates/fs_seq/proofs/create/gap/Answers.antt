@@ -1,6 +1,6 @@
 use Rattle.std.proofs.Common.{◌<◌, length, Some, subst, sym, ap, ◌∙◌, arith}
-use Rattle.fs_slab.specs.code.Nodes.{graph, shape_there, full_there}
-use Rattle.fs_slab.specs.code.Slots.{tree_of}
+use Rattle.fs_seq_nodes.specs.code.Nodes.{graph, shape_there, full_there}
+use Rattle.fs_seq_nodes.specs.code.Slots.{tree_of}
 use Rattle.fs_seq.specs.code.Effects.{IsGap}
 use Rattle.fs_seq.proofs.Spots.{dir_there, full_is, making_root, making_lost, making_spot, gap_there, spot_kept}
 use Rattle.fs_seq.proofs.create.gap.Goals as goal

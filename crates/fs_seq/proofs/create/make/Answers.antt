@@ -1,6 +1,6 @@
 use Rattle.std.proofs.Common.{◌≡◌, ◌+◌, ◌-◌, ◌<◌, length, arith}
-use Rattle.fs_slab.specs.code.Nodes.{graph}
-use Rattle.fs_slab.proofs.FormLemmas.{form_attached}
+use Rattle.fs_seq_nodes.specs.code.Nodes.{graph}
+use Rattle.fs_seq_nodes.proofs.FormLemmas.{form_attached}
 use Rattle.fs_seq.proofs.Made.{is_made}
 use Rattle.fs_seq.proofs.create.make.Goals as goal
 

@@ -1,6 +1,6 @@
 use Rattle.std.proofs.Common.{◌∙◌, refl}
-use Rattle.fs_slab.specs.code.Nodes.{graph}
-use Rattle.fs_slab.specs.code.Slots.{tree_of}
+use Rattle.fs_seq_nodes.specs.code.Nodes.{graph}
+use Rattle.fs_seq_nodes.specs.code.Slots.{tree_of}
 use Rattle.fs_seq.specs.code.Effects.{making_fault}
 use Rattle.fs_calls.specs.declared.call.Call.TheVariants.{Mkdir}
 use Rattle.fs_seq.proofs.Made.{mkdir_fault}

@@ -1,8 +1,8 @@
 use Rattle.std.proofs.Common.{◌∙◌, refl, sym, ap}
 use Rattle.fs_blocks.specs.Files.{FileValue}
 use Rattle.fs_calls.specs.Tree.{inserted, File}
-use Rattle.fs_slab.specs.code.Nodes.{graph}
-use Rattle.fs_slab.specs.code.Slots.{tree_of}
+use Rattle.fs_seq_nodes.specs.code.Nodes.{graph}
+use Rattle.fs_seq_nodes.specs.code.Slots.{tree_of}
 use Rattle.fs_seq.specs.code.Effects.{making_fault}
 use Rattle.fs_calls.specs.declared.call.Call.TheVariants.{Mknod}
 use Rattle.fs_seq.proofs.Made.{mknod_fault}

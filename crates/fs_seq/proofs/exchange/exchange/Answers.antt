@@ -1,7 +1,7 @@
 use Rattle.std.proofs.Common.{◌≡◌, sym, subst, refl}
 use Rattle.fs_calls.specs.declared.call.Call.TheVariants.{Exchange}
 use Rattle.fs_calls.specs.declared.reply.Reply.TheVariants.{Done}
-use Rattle.fs_slab.specs.code.Nodes.{graph}
+use Rattle.fs_seq_nodes.specs.code.Nodes.{graph}
 use Rattle.fs_seq.specs.code.Effects.{Answers}
 use Rattle.fs_seq.proofs.Replies.{at_each, refused}
 use Rattle.fs_seq.proofs.Exchanged.{stayed, swapped}

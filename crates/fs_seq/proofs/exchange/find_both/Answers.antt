@@ -1,7 +1,7 @@
 use Rattle.std.proofs.Common.{◌≡◌, None, sym, ◌∙◌}
 use Rattle.fs_names.specs.Failures.{first_failure}
 use Rattle.fs_calls.specs.Rows.{exchange_errors}
-use Rattle.fs_slab.specs.code.Nodes.{graph, shape_there}
+use Rattle.fs_seq_nodes.specs.code.Nodes.{graph, shape_there}
 use Rattle.fs_seq.proofs.Spots.{spot_kept}
 use Rattle.fs_seq.proofs.Replies.{fault_by_paths}
 use Rattle.fs_seq.proofs.ExchangeFaults.{named, other_named, lost, other_lost, met, first_there, second_there, at_path}

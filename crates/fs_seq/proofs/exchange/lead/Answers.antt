@@ -1,8 +1,8 @@
 use Rattle.std.proofs.Common.{◌<◌, ap, sym, subst, ◌∙◌, length, is_some, slice_get, slice_set}
-use Rattle.fs_slab.specs.code.Nodes.{place, name_of}
-use Rattle.fs_slab.specs.code.Slots.{Dir}
-use Rattle.fs_slab.proofs.NodeLemmas.{has_key, length-pairs}
-use Rattle.fs_slab.proofs.SlabLemmas.{sets_value, links_read, dir_not_file}
+use Rattle.fs_seq_nodes.specs.code.Nodes.{place, name_of}
+use Rattle.fs_seq_nodes.specs.code.Slots.{Dir}
+use Rattle.fs_seq_nodes.proofs.NodeLemmas.{has_key, length-pairs}
+use Rattle.fs_seq_nodes.proofs.SlabLemmas.{sets_value, links_read, dir_not_file}
 use Rattle.fs_seq.proofs.exchange.lead.Goals as goal
 
 pub index_mut-requires : goal.index_mut-requires

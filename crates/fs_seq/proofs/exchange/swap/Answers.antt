@@ -1,5 +1,5 @@
-use Rattle.fs_slab.specs.code.Nodes.{graph}
-use Rattle.fs_slab.specs.code.Slots.{links_at}
+use Rattle.fs_seq_nodes.specs.code.Nodes.{graph}
+use Rattle.fs_seq_nodes.specs.code.Slots.{links_at}
 use Rattle.fs_seq.proofs.Exchanged.{still_dir, still_within, has_name}
 use Rattle.fs_seq.proofs.exchange.swap.Goals as goal
 

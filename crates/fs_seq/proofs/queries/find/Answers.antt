@@ -1,8 +1,8 @@
 use Rattle.std.proofs.Common.{ap, sym, ◌∙◌, Some}
-use Rattle.fs_slab.specs.code.Nodes.{graph, place}
-use Rattle.fs_slab.specs.code.Slots.{walk, shape_of}
+use Rattle.fs_seq_nodes.specs.code.Nodes.{graph, place}
+use Rattle.fs_seq_nodes.specs.code.Slots.{walk, shape_of}
 use Rattle.fs_calls.proofs.ListLemmas.{take_whole}
-use Rattle.fs_slab.proofs.NodeLemmas.{has_key, place_got}
+use Rattle.fs_seq_nodes.proofs.NodeLemmas.{has_key, place_got}
 use Rattle.fs_seq.proofs.Looked.{error_there, is_found}
 use Rattle.fs_seq.proofs.queries.find.Goals as goal
 

@@ -1,7 +1,7 @@
 use Rattle.std.proofs.Common.{◌≡◌, ◌+◌, ◌-◌, ◌≤◌, ◌++◌, Some, arith, ap, sym, ◌∙◌, length, map, take, drop}
 use Rattle.std.proofs.lemmas.List.{length-take-le}
-use Rattle.fs_slab.specs.code.Nodes.{place, pairs}
-use Rattle.fs_slab.specs.code.Slots.{links_of}
+use Rattle.fs_seq_nodes.specs.code.Nodes.{place, pairs}
+use Rattle.fs_seq_nodes.specs.code.Slots.{links_of}
 use Rattle.fs_seq.proofs.NameParts.{some_names, names_more}
 use Rattle.fs_seq.proofs.Replies.{on_err}
 use Rattle.fs_seq.proofs.queries.names_of.Goals as goal

@@ -1,6 +1,6 @@
 use Rattle.std.proofs.Common.{◌≡◌, ◌≤◌, ◌-◌, ◌*◌, Some, take, drop, map}
-use Rattle.fs_slab.specs.code.Nodes.{place}
-use Rattle.fs_slab.specs.code.Slots.{links_of}
+use Rattle.fs_seq_nodes.specs.code.Nodes.{place}
+use Rattle.fs_seq_nodes.specs.code.Slots.{links_of}
 use Rattle.fs_names.specs.declared.name_list.TheConstants.{NAME_TEXT}
 use Rattle.fs_seq.proofs.queries.names_of.Given as goal
 

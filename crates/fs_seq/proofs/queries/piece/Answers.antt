@@ -1,8 +1,8 @@
 use Rattle.std.proofs.Common.{arith, ◌≡◌, ◌+◌, ◌-◌, Some, length, length-drop, map, take, drop, min, sym, ap, ◌∙◌}
 use Rattle.std.proofs.lemmas.List.{length-map, take_min}
 use Rattle.fs_names.specs.Names.{names_above}
-use Rattle.fs_slab.specs.code.Nodes.{place}
-use Rattle.fs_slab.specs.code.Slots.{links_of}
+use Rattle.fs_seq_nodes.specs.code.Nodes.{place}
+use Rattle.fs_seq_nodes.specs.code.Slots.{links_of}
 use Rattle.fs_seq.proofs.NameParts.{drop_names}
 use Rattle.fs_seq.proofs.queries.piece.Goals as goal
 

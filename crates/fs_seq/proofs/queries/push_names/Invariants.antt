@@ -1,5 +1,5 @@
 use Rattle.std.proofs.Common.{◌≡◌, ◌≤◌, ◌+◌, ◌*◌, ◌++◌, take, map}
-use Rattle.fs_slab.specs.code.Nodes.{pairs}
+use Rattle.fs_seq_nodes.specs.code.Nodes.{pairs}
 use Rattle.fs_names.specs.declared.name_list.TheConstants.{NAME_TEXT}
 use Rattle.fs_seq.proofs.queries.push_names.Given as goal
 

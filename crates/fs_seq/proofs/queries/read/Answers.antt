@@ -4,8 +4,8 @@ use Rattle.fs_calls.specs.Forms as forms
 use Rattle.fs_calls.specs.Sights.{bytes_of, has_any}
 use Rattle.fs_calls.specs.declared.call.Call.TheVariants.{Read}
 use Rattle.fs_calls.specs.declared.reply.Reply.TheVariants as replies
-use Rattle.fs_slab.specs.code.Nodes.{graph, place}
-use Rattle.fs_slab.specs.code.Slots.{tree_of, shape_of}
+use Rattle.fs_seq_nodes.specs.code.Nodes.{graph, place}
+use Rattle.fs_seq_nodes.specs.code.Slots.{tree_of, shape_of}
 use Rattle.fs_seq.proofs.Looked.{looking_fault, failed_reply, found_reply}
 use Rattle.fs_seq.proofs.Replies.{needs, on_err}
 use Rattle.fs_seq.proofs.queries.read.Goals as goal

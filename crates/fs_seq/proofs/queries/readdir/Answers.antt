@@ -5,8 +5,8 @@ use Rattle.fs_calls.specs.Outcomes.{resolution}
 use Rattle.fs_calls.specs.Sights.{tree_shapes, names_of, has_any}
 use Rattle.fs_calls.specs.declared.call.Call.TheVariants.{Readdir}
 use Rattle.fs_calls.specs.declared.reply.Reply.TheVariants as replies
-use Rattle.fs_slab.specs.code.Nodes.{graph, place}
-use Rattle.fs_slab.specs.code.Slots.{tree_of, links_of}
+use Rattle.fs_seq_nodes.specs.code.Nodes.{graph, place}
+use Rattle.fs_seq_nodes.specs.code.Slots.{tree_of, links_of}
 use Rattle.fs_seq.proofs.NameParts.{whole_names}
 use Rattle.fs_seq.proofs.Looked.{all_told, looking_fault, failed_reply, found_reply, link_names}
 use Rattle.fs_seq.proofs.Replies.{needs, on_err}

@@ -4,10 +4,10 @@ use Rattle.fs_names.specs.declared.kind.Kind.TheVariants as kind
 use Rattle.fs_calls.specs.Forms as forms
 use Rattle.fs_calls.specs.declared.call.Call.TheVariants.{Stat}
 use Rattle.fs_calls.specs.declared.reply.Reply.TheVariants as replies
-use Rattle.fs_slab.specs.code.Nodes.{graph, place, pairs}
-use Rattle.fs_slab.specs.code.Slots.{tree_of}
+use Rattle.fs_seq_nodes.specs.code.Nodes.{graph, place, pairs}
+use Rattle.fs_seq_nodes.specs.code.Slots.{tree_of}
 use Rattle.fs_seq.specs.code.Effects.{IsFound}
-use Rattle.fs_slab.proofs.NodeLemmas.{length-pairs}
+use Rattle.fs_seq_nodes.proofs.NodeLemmas.{length-pairs}
 use Rattle.fs_seq.proofs.Looked.{failed_reply, found_reply}
 use Rattle.fs_seq.proofs.queries.stat.Goals as goal
 

@@ -4,8 +4,8 @@ use Rattle.fs_names.specs.declared.limits.Limits.TheVariants.{V1}
 use Rattle.fs_calls.specs.Forms.{root_error}
 use Rattle.fs_calls.specs.code.Targets.{entry_call}
 use Rattle.fs_calls.specs.Rows.{entry_errors, entry_fault}
-use Rattle.fs_slab.specs.code.Nodes.{graph, shape_there, LooksUp}
-use Rattle.fs_slab.specs.code.Slots.{tree_of, place_at, shape_of}
+use Rattle.fs_seq_nodes.specs.code.Nodes.{graph, shape_there, LooksUp}
+use Rattle.fs_seq_nodes.specs.code.Slots.{tree_of, place_at, shape_of}
 use Rattle.fs_seq.specs.code.Effects.{Answers, call_on}
 use Rattle.fs_seq.proofs.Spots.{spot_kept}
 use Rattle.fs_seq.proofs.Removed.{entry_goes, entry_leaf, entry_met, root_fault, parent_fault, spot_fault, refused, is_removed}

@@ -2,10 +2,10 @@ use Rattle.std.proofs.Common.{◌≡◌, ◌≢◌, ℕ, not, refl, sym, ap, sub
 use Rattle.std.specs.Prelude.{nat_le}
 use Rattle.fs_names.specs.Limits.{entry_limit}
 use Rattle.fs_calls.specs.Rows.{place_fault}
-use Rattle.fs_slab.specs.code.Nodes.{graph, LooksUp, IsTaken, IsFree}
-use Rattle.fs_slab.specs.code.Slots.{shape_at}
-use Rattle.fs_slab.specs.declared.nodes.Spot.TheVariants.{Taken, Free}
-use Rattle.fs_slab.proofs.NodeLemmas.{has_key}
+use Rattle.fs_seq_nodes.specs.code.Nodes.{graph, LooksUp, IsTaken, IsFree}
+use Rattle.fs_seq_nodes.specs.code.Slots.{shape_at}
+use Rattle.fs_seq_nodes.specs.declared.nodes.Spot.TheVariants.{Taken, Free}
+use Rattle.fs_seq_nodes.proofs.NodeLemmas.{has_key}
 use Rattle.fs_seq.proofs.RenameFaults.{named, new_named, looked_up, taken_walk, fault_source, fault_dest, missing, stays, onto, moves_onto, free, moves_beside, moves_to}
 use Rattle.fs_seq.proofs.Spots.{has_names}
 use Rattle.fs_seq.proofs.Replies.{fault_by_paths}

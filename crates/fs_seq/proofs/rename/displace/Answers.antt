@@ -1,7 +1,7 @@
-use Rattle.fs_slab.specs.code.Nodes.{graph}
-use Rattle.fs_slab.specs.code.Slots.{links_at}
-use Rattle.fs_slab.proofs.NodeLemmas.{has_key}
-use Rattle.fs_slab.proofs.SlabLemmas.{sets_slot}
+use Rattle.fs_seq_nodes.specs.code.Nodes.{graph}
+use Rattle.fs_seq_nodes.specs.code.Slots.{links_at}
+use Rattle.fs_seq_nodes.proofs.NodeLemmas.{has_key}
+use Rattle.fs_seq_nodes.proofs.SlabLemmas.{sets_slot}
 use Rattle.fs_seq.proofs.Exchanged.{has_name, still_dir, still_within}
 use Rattle.fs_seq.proofs.Rewiring.{still_placed}
 use Rattle.fs_seq.proofs.rename.displace.Goals as goal

@@ -1,7 +1,7 @@
 use Rattle.std.proofs.Common.{sym, ◌∙◌}
-use Rattle.fs_slab.specs.code.Nodes.{graph}
-use Rattle.fs_slab.specs.code.Slots.{shape_at, place_at}
-use Rattle.fs_slab.proofs.NodeLemmas.{key_there}
+use Rattle.fs_seq_nodes.specs.code.Nodes.{graph}
+use Rattle.fs_seq_nodes.specs.code.Slots.{shape_at, place_at}
+use Rattle.fs_seq_nodes.proofs.NodeLemmas.{key_there}
 use Rattle.fs_seq.proofs.RenameFaults.{there_not_missing, place_row}
 use Rattle.fs_seq.proofs.rename.place_error.Goals as goal
 

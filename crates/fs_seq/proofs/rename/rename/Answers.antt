@@ -1,10 +1,10 @@
 use Rattle.std.proofs.Common.{◌≡◌, ◌≤◌, ◌-◌, ℕ, length, refl, sym, ◌∙◌, subst, Some, Ok, Err, Result, OnErr, arith, slice_get}
 use Rattle.fs_names.specs.Names.{Name}
 use Rattle.fs_names.specs.Keys.{Key, last_of}
-use Rattle.fs_slab.specs.code.Nodes.{graph}
+use Rattle.fs_seq_nodes.specs.code.Nodes.{graph}
 use Rattle.fs_seq.specs.code.Renaming.{Plans}
 use Rattle.fs_seq.specs.declared.rename.Plan.TheVariants.{Stay, Onto, Within, Across}
-use Rattle.fs_slab.proofs.NodeLemmas.{last_got}
+use Rattle.fs_seq_nodes.proofs.NodeLemmas.{last_got}
 use Rattle.fs_seq.proofs.Renamed.{failed, stayed, new_path_named, node_placed, left_rising, left_absent, moved_within, moved_onto, moved_across, memory_needed, name_needed}
 use Rattle.fs_seq.proofs.rename.rename.Goals as goal
 

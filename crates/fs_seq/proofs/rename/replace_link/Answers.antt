@@ -1,10 +1,10 @@
 use Rattle.std.proofs.Common.{◌<◌, ap, sym, subst, ◌∙◌, length, is_some, remove}
 use Rattle.std.specs.FinMap.{find, put, is_sorted}
 use Rattle.fs_names.specs.Names.{name_cmp}
-use Rattle.fs_slab.specs.code.Nodes.{place}
-use Rattle.fs_slab.specs.code.Slots.{Dir}
-use Rattle.fs_slab.proofs.NodeLemmas.{has_key, length-pairs}
-use Rattle.fs_slab.proofs.SlabLemmas.{sets_value, links_read, dir_not_file}
+use Rattle.fs_seq_nodes.specs.code.Nodes.{place}
+use Rattle.fs_seq_nodes.specs.code.Slots.{Dir}
+use Rattle.fs_seq_nodes.proofs.NodeLemmas.{has_key, length-pairs}
+use Rattle.fs_seq_nodes.proofs.SlabLemmas.{sets_value, links_read, dir_not_file}
 use Rattle.fs_seq.proofs.rename.replace_link.Goals as goal
 
 pub index_mut-requires : goal.index_mut-requires

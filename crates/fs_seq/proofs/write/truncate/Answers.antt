@@ -4,10 +4,10 @@ use Rattle.fs_calls.specs.Forms as forms
 use Rattle.fs_calls.specs.Outcomes.{resolution}
 use Rattle.fs_calls.specs.declared.call.Call.TheVariants.{Truncate}
 use Rattle.fs_calls.proofs.ListLemmas.{take_whole}
-use Rattle.fs_slab.specs.code.Nodes.{graph}
-use Rattle.fs_slab.specs.code.Slots.{walk, tree_of, HasForm}
-use Rattle.fs_slab.proofs.NodeLemmas.{has_key, place_got}
-use Rattle.fs_slab.proofs.SlabLemmas.{same_graph}
+use Rattle.fs_seq_nodes.specs.code.Nodes.{graph}
+use Rattle.fs_seq_nodes.specs.code.Slots.{walk, tree_of, HasForm}
+use Rattle.fs_seq_nodes.proofs.NodeLemmas.{has_key, place_got}
+use Rattle.fs_seq_nodes.proofs.SlabLemmas.{same_graph}
 use Rattle.fs_seq.proofs.Looked.{lost_error, looking_fault}
 use Rattle.fs_seq.proofs.Replies.{refused, IfOk-map, OnErr-map}
 use Rattle.fs_seq.proofs.Written.{is_rewritten, truncate_needs}

@@ -1,6 +1,6 @@
 use Rattle.std.proofs.Common.{List, ℕ, ◌++◌, ap, ◌∙◌}
 use Rattle.std.proofs.lemmas.Result.{on_ok_weaker}
-use Rattle.fs_json.specs.Objects.{Member, object_text}
+use Rattle.fs_words.specs.JsonObjects.{Member, object_text}
 use Rattle.fs_trace.proofs.Objecting.{end_is}
 use Rattle.fs_trace.proofs.object_text.push_counts.Goals as goal
 

@@ -1,7 +1,7 @@
 use Rattle.std.proofs.Common.{◌≡◌, List, ℕ, ◌++◌, refl, ap, ◌∙◌}
 use Rattle.std.proofs.lemmas.Result.{on_ok_weaker}
-use Rattle.fs_json.specs.Objects.{Member, object_text}
-use Rattle.fs_story.specs.Shown.{deed_shown}
+use Rattle.fs_words.specs.JsonObjects.{Member, object_text}
+use Rattle.fs_trace_story.specs.Shown.{deed_shown}
 use Rattle.fs_trace.specs.Objects.{told_members}
 use Rattle.fs_trace.proofs.objects.push_moment.Goals as goal
 

@@ -1,6 +1,6 @@
 use Rattle.std.proofs.Common.{◌≡◌, Result, Err, [], sym, ◌∙◌, subst, arith, rules}
 use Rattle.std.proofs.lemmas.Bool.{ltb-true, ltb-false}
-use Rattle.fs_io.specs.declared.shell.Made.{Made}
+use Rattle.fs_verdict.specs.declared.shell.Made.{Made}
 use Rattle.fs_trace.specs.code.Mades.{MakesSchedule}
 use Rattle.fs_trace.proofs.Making.{not_made}
 use Rattle.fs_trace.proofs.Playing.{read_back}

@@ -1,5 +1,5 @@
 use Rattle.std.proofs.Common.{◌≡◌, ◌≢◌, Err, refl, ap, sym, subst}
-use Rattle.fs_io.specs.declared.failure.Failure.TheVariants as failure
+use Rattle.fs_verdict.specs.declared.failure.Failure.TheVariants as failure
 use Rattle.fs_verdict.specs.declared.fault.RunFault.{RunFault}
 use Rattle.fs_verdict.specs.declared.fault.RunFault.TheVariants.{Input, Write, Full, UnderWay}
 use Rattle.fs_verdict.proofs.Unmade.{unmade, unwritten}

@@ -1,8 +1,8 @@
 use Rattle.std.specs.Io.KnownBytes.{Appends}
 use Rattle.std.proofs.Common.{refl, subst, Err, ap, sym, true, [], ◌≡◌, ◌≢◌, ◌∙◌}
-use Rattle.fs_io.specs.declared.failure.Failure.TheVariants as failure
+use Rattle.fs_verdict.specs.declared.failure.Failure.TheVariants as failure
 use Rattle.fs_verdict.specs.Checks.{verdict_of}
-use Rattle.fs_verdict.specs.Devices.{IsFaultOf}
+use Rattle.fs_verdict.specs.InputFaults.{IsFaultOf}
 use Rattle.fs_verdict.specs.declared.checking.Checked.{Checked}
 use Rattle.fs_verdict.specs.declared.fault.RunFault.{RunFault}
 use Rattle.fs_verdict.specs.declared.fault.RunFault.TheVariants.{Input, Write}

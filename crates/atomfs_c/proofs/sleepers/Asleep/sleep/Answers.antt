@@ -1,8 +1,8 @@
 use Rattle.std.proofs.Common.{ℕ, ap, sym, subst, ◌∙◌, ◌%◌, arith}
 use Rattle.std.proofs.lemmas.Option.{slice_get-get_or}
-use Rattle.fs_wait.specs.declared.sleepers.Queue.{Queue}
-use Rattle.fs_wait.specs.Sleeping.{Notes, one_more}
-use Rattle.fs_wait.proofs.Covering.{one_more_elsewhere}
+use Rattle.fs_share_wait.specs.declared.sleepers.Queue.{Queue}
+use Rattle.fs_share_wait.specs.Sleeping.{Notes, one_more}
+use Rattle.fs_share_wait.proofs.Covering.{one_more_elsewhere}
 use Rattle.atomfs_c.proofs.Noting.{noted_set}
 use Rattle.atomfs_c.proofs.sleepers.Asleep.sleep.Goals as goal
 

@@ -1,9 +1,9 @@
 use Rattle.std.proofs.Common.{◌≡◌, ℕ, Some, slice_get, ap, sym, subst, ◌∙◌, ◌%◌, arith}
 use Rattle.std.proofs.lemmas.Option.{slice_get-get_or}
-use Rattle.fs_wait.specs.declared.sleepers.Queue.{Queue}
-use Rattle.fs_wait.specs.declared.sleepers.Wake.{Wake}
-use Rattle.fs_wait.specs.Sleeping.{Notes, woken_for, IsDue}
-use Rattle.fs_wait.proofs.Covering.{woken_here, woken_elsewhere}
+use Rattle.fs_share_wait.specs.declared.sleepers.Queue.{Queue}
+use Rattle.fs_share_wait.specs.declared.sleepers.Wake.{Wake}
+use Rattle.fs_share_wait.specs.Sleeping.{Notes, woken_for, IsDue}
+use Rattle.fs_share_wait.proofs.Covering.{woken_here, woken_elsewhere}
 use Rattle.atomfs_c.specs.Sleepers.{queues_in}
 use Rattle.atomfs_c.proofs.Noting.{noted_set, queue_at}
 use Rattle.atomfs_c.proofs.sleepers.Asleep.wake.Goals as goal

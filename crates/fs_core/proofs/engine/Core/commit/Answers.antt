@@ -4,7 +4,7 @@ use Rattle.fs_core.proofs.Doing.{finish_can, finish_form, finish_plan, committed
 use Rattle.fs_core.proofs.Indexing.{commit_next}
 use Rattle.fs_core_seats.proofs.SeatLemmas.{length_after}
 use Rattle.fs_core.proofs.Starting.{starting_moved, finishes_otherwise}
-use Rattle.fs_finish.specs.Plans.{moved_by}
+use Rattle.fs_ops_effects.specs.Plans.{moved_by}
 use Rattle.fs_core.proofs.Among.{among_moved}
 use Rattle.fs_core.proofs.engine.Core.commit.Goals as goal
 

@@ -1,7 +1,7 @@
 use Rattle.std.proofs.Common.{sym, subst}
 use Rattle.fs_calls.specs.Starts.{Start}
-use Rattle.fs_rows.specs.Rows.{IsWithinLimits}
-use Rattle.fs_rows.proofs.Fitting.{fitting_rows_are_trees}
+use Rattle.fs_seq.specs.Rows.{IsWithinLimits}
+use Rattle.fs_seq.proofs.Fitting.{fitting_rows_are_trees}
 use Rattle.fs_core.proofs.engine.Core.from_rows.Goals as goal
 
 pub from_tree-requires-clause-within : goal.from_tree-requires-clause-within

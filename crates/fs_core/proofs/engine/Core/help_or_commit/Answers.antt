@@ -5,7 +5,7 @@ use Rattle.fs_core.proofs.Choosing.{search_by, chosen_if}
 use Rattle.fs_core.proofs.Indexing.{commit_next}
 use Rattle.fs_core_seats.proofs.SeatLemmas.{length_after}
 use Rattle.fs_core.proofs.Starting.{starting_helped}
-use Rattle.fs_finish.specs.Plans.{moved_by}
+use Rattle.fs_ops_effects.specs.Plans.{moved_by}
 use Rattle.fs_core_seats.proofs.Among.{listed_by}
 use Rattle.fs_core.proofs.Among.{among_helped}
 use Rattle.fs_core.proofs.engine.Core.help_or_commit.Goals as goal

@@ -1,7 +1,7 @@
-use Rattle.fs_numbers.proofs.Agreement.{parts_agree}
-use Rattle.fs_numbers.proofs.Counting.{numbers_counted}
-use Rattle.fs_numbers.proofs.Holdings.{four_held}
-use Rattle.fs_numbers.proofs.Leaks.{numbers_kept}
+use Rattle.fs_laws.proofs.Agreement.{parts_agree}
+use Rattle.fs_laws.proofs.Counting.{numbers_counted}
+use Rattle.fs_laws.proofs.Holdings.{four_held}
+use Rattle.fs_laws.proofs.Leaks.{numbers_kept}
 use Rattle.fs_core.proofs.engine.Core.told_of_numbers.Goals as goal
 
 pub returns-clause-no_leak : goal.returns-clause-no_leak

@@ -2,7 +2,7 @@ use Rattle.std.proofs.Common.{[], ◌∷◌, ◌++◌, sym, ap, subst, ◌∙◌
 use Rattle.fs_calls.specs.declared.reply.Reply.TheVariants.{Done}
 use Rattle.fs_timeline.specs.declared.entry.Entry.{Entry}
 use Rattle.fs_timeline.specs.declared.entry.Entry.TheVariants.{Begin, Return}
-use Rattle.fs_histories.specs.Heard.{entry_of}
+use Rattle.fs_linearize_histories.specs.Heard.{entry_of}
 use Rattle.fs_linearize.specs.code.Knowing.{IsKnown}
 use Rattle.fs_linearize.proofs.faults.Known.take_in.Goals as goal
 

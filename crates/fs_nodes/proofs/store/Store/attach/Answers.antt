@@ -3,13 +3,13 @@ use Rattle.std.specs.Vec.{with_items}
 use Rattle.std.proofs.lemmas.List.{with_items_is}
 use Rattle.fs_names.specs.Shapes.{is_there, is_dir}
 use Rattle.fs_names.specs.declared.limits.TheConstants.{NODE_LIMIT}
-use Rattle.fs_plain.specs.declared.node.Node.{Node}
-use Rattle.fs_plain.specs.Stores.{graph_of, limit_of, room, graph_in}
+use Rattle.fs_nodes_places.specs.declared.node.Node.{Node}
+use Rattle.fs_nodes_places.specs.Stores.{graph_of, limit_of, room, graph_in}
 use Rattle.fs_nodes.specs.declared.index.Slot.{Slot}
-use Rattle.fs_places.specs.declared.place.Place.{Place}
-use Rattle.fs_graph.specs.Graphs.{linked_in, IsReached, IsUnlinked}
-use Rattle.fs_places.specs.Plains.{plains}
-use Rattle.fs_places.specs.code.Keys.{key_of, keys_of}
+use Rattle.fs_nodes_places.specs.declared.place.Place.{Place}
+use Rattle.fs_calls.specs.Graphs.{linked_in, IsReached, IsUnlinked}
+use Rattle.fs_nodes_places.specs.Plains.{plains}
+use Rattle.fs_nodes_places.specs.code.Keys.{key_of, keys_of}
 use Rattle.fs_nodes.specs.code.Indexes.{IsIndex}
 use Rattle.fs_nodes.specs.code.Linked.{graph_of_places, IsPlaces, IsGap, IsLesser, put_between, bared}
 use Rattle.fs_nodes.specs.code.Frees.{IsLinked}

@@ -1,6 +1,6 @@
 use Rattle.std.proofs.Common.{Some, sym, ap, ◌∙◌}
-use Rattle.fs_plain.specs.declared.node.Content.{Content}
-use Rattle.fs_plain.specs.Stores.{graph_of, limit_of, room}
+use Rattle.fs_nodes_places.specs.declared.node.Content.{Content}
+use Rattle.fs_nodes_places.specs.Stores.{graph_of, limit_of, room}
 use Rattle.fs_nodes.proofs.FormLemmas.{file_form}
 use Rattle.fs_nodes.proofs.store.Store.content.Goals as goal
 

@@ -1,4 +1,4 @@
-use Rattle.fs_plain.specs.Stores.{graph_of, limit_of, room}
+use Rattle.fs_nodes_places.specs.Stores.{graph_of, limit_of, room}
 use Rattle.fs_nodes.proofs.SeenLemmas.{linked_real}
 use Rattle.fs_nodes.proofs.store.Store.find_steps.Goals as goal
 

@@ -1,5 +1,5 @@
 use Rattle.std.proofs.Common.{ap}
-use Rattle.fs_plain.specs.Stores.{lent, graph_of, limit_of, room}
+use Rattle.fs_nodes_places.specs.Stores.{lent, graph_of, limit_of, room}
 use Rattle.fs_nodes.proofs.EntryLemmas.{none_some}
 use Rattle.fs_nodes.proofs.SeenLemmas.{linked_real}
 use Rattle.fs_nodes.proofs.store.Store.next_entry_after.Goals as goal

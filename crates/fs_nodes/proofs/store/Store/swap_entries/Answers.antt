@@ -1,8 +1,8 @@
 use Rattle.std.proofs.Common.{◌≡◌, ℕ, subst}
-use Rattle.fs_graph.specs.Graphs.{swapped_in}
-use Rattle.fs_plain.specs.Seen.{seen, IsReal}
-use Rattle.fs_plain.specs.Stores.{graph_of, limit_of, room}
-use Rattle.fs_plain.proofs.ExchangeLemmas.{IsBetween, before_first, before_second, second_still, second_was, swapped_seen, same_number}
+use Rattle.fs_calls.specs.Graphs.{swapped_in}
+use Rattle.fs_nodes_places.specs.Seen.{seen, IsReal}
+use Rattle.fs_nodes_places.specs.Stores.{graph_of, limit_of, room}
+use Rattle.fs_nodes_places.proofs.ExchangeLemmas.{IsBetween, before_first, before_second, second_still, second_was, swapped_seen, same_number}
 use Rattle.fs_nodes.proofs.SeenLemmas.{linked_real}
 use Rattle.fs_nodes.proofs.store.Store.swap_entries.Goals as goal
 

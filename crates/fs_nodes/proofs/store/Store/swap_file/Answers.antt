@@ -1,19 +1,19 @@
 use Rattle.std.proofs.Common.{◌≡◌, ◌∙◌, List, length, sym, ap, subst}
 use Rattle.std.specs.Vec.{with_items}
 use Rattle.std.proofs.lemmas.List.{with_items_is}
-use Rattle.fs_plain.specs.Stores.{graph_of, limit_of, room}
-use Rattle.fs_places.specs.declared.place.Place.{Place}
-use Rattle.fs_graph.specs.Graphs.{content_in}
-use Rattle.fs_places.specs.code.Edits.{edited, with_content}
+use Rattle.fs_nodes_places.specs.Stores.{graph_of, limit_of, room}
+use Rattle.fs_nodes_places.specs.declared.place.Place.{Place}
+use Rattle.fs_calls.specs.Graphs.{content_in}
+use Rattle.fs_nodes_places.specs.code.Edits.{edited, with_content}
 use Rattle.fs_nodes.specs.code.Linked.{graph_of_places}
 use Rattle.fs_nodes.specs.code.Frees.{IsLinked}
-use Rattle.fs_places.specs.Plains.{plains}
-use Rattle.fs_places.specs.code.Keys.{keys_of}
+use Rattle.fs_nodes_places.specs.Plains.{plains}
+use Rattle.fs_nodes_places.specs.code.Keys.{keys_of}
 use Rattle.fs_nodes.specs.code.Indexes.{IsIndex}
 use Rattle.fs_nodes.specs.code.Forms.{HaveForm}
 use Rattle.fs_nodes.proofs.FormLemmas.{form_swapped}
 use Rattle.fs_nodes.proofs.KeyLemmas.{index_swapped}
-use Rattle.fs_places.proofs.EditLemmas.{length_edited}
+use Rattle.fs_nodes_places.proofs.EditLemmas.{length_edited}
 use Rattle.fs_nodes.proofs.SwapLemmas.{linked_swap, swap_read, swap_form}
 use Rattle.fs_nodes.proofs.SeenLemmas.{linked_seen}
 use Rattle.fs_nodes.proofs.store.Store.swap_file.Goals as goal

@@ -1,5 +1,5 @@
-use Rattle.fs_plain.specs.Seen.{seen}
-use Rattle.fs_plain.proofs.SwapLemmas.{still_file, put_back}
+use Rattle.fs_nodes_places.specs.Seen.{seen}
+use Rattle.fs_nodes_places.proofs.SwapLemmas.{still_file, put_back}
 use Rattle.fs_nodes.proofs.store.Store.write.Goals as goal
 
 pub swap_file-requires-clause-node : goal.swap_file-requires-clause-node

@@ -5,9 +5,9 @@ use Rattle.fs_calls.specs.declared.reply.Reply.{Reply}
 use Rattle.fs_nodes.specs.Graphs.{Graph}
 use Rattle.fs_nodes.specs.Seen.{seen}
 use Rattle.fs_nodes.specs.Stores.{graph_of}
-use Rattle.fs_finish.specs.Endings.{IsEffect}
-use Rattle.fs_finish.specs.Plans.{carried, CanCarryOut}
-use Rattle.fs_finish.specs.declared.plan.Route.{Route}
+use Rattle.fs_ops_effects.specs.Endings.{IsEffect}
+use Rattle.fs_ops_effects.specs.Plans.{carried, CanCarryOut}
+use Rattle.fs_ops_effects.specs.declared.plan.Route.{Route}
 use Rattle.fs_ops.specs.declared.outcome.Outcome.TheVariants.{Fixed}
 use Rattle.fs_ops.specs.OpValue.{op_value, with_held}
 use Rattle.fs_ops.specs.PlanOf.{IsPlan}

@@ -1,7 +1,7 @@
 use Rattle.std.proofs.Common.{[], ◌∷◌, refl, subst}
 use Rattle.fs_sched.specs.code.Counts.{AreCounts}
 use Rattle.fs_sched.specs.code.Stages.{stage_of}
-use Rattle.fs_witness.specs.declared.moments.Moment.TheVariants.{Checkpoint}
+use Rattle.fs_sched_witness.specs.declared.moments.Moment.TheVariants.{Checkpoint}
 use Rattle.fs_sched.proofs.pieces.Pieces.checkpoint.Goals as goal
 
 pub returns-in-Ok-saw-clause-notes : goal.returns-in-Ok-saw-clause-notes

@@ -6,7 +6,7 @@ use Rattle.fs_sched.specs.Moments.{AnswersEvent}
 use Rattle.fs_sched.specs.Runs.{IsRefused}
 use Rattle.fs_sched.specs.code.Notes.{Happens}
 use Rattle.fs_sched.specs.code.Stages.{stage_of}
-use Rattle.fs_witness.specs.declared.moments.Answer.TheVariants as answer
+use Rattle.fs_sched_witness.specs.declared.moments.Answer.TheVariants as answer
 use Rattle.fs_sched.specs.declared.play.Play.{Play}
 use Rattle.fs_sched.proofs.Asking.{idle}
 use Rattle.fs_sched.proofs.Marks.{still_marked, marked_same}

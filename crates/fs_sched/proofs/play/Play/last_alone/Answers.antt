@@ -5,7 +5,7 @@ use Rattle.fs_sched.specs.code.Stages.{stage_of}
 use Rattle.fs_sched.proofs.Alone.{last_round, last_stops, last_unfinished, last_over, refused_more}
 use Rattle.fs_sched.proofs.Noting.{rounds_start, rounds_more, rounds_kept, rounds_end, notes_alone, happens_busy, happens_not}
 use Rattle.fs_sched.proofs.OverLemmas.{event_over}
-use Rattle.fs_witness.specs.declared.moments.Answer.TheVariants.{Spent}
+use Rattle.fs_sched_witness.specs.declared.moments.Answer.TheVariants.{Spent}
 use Rattle.fs_sched.proofs.Asking.{of_both}
 use Rattle.fs_sched.proofs.Rounds.{round_smaller}
 use Rattle.fs_sched.proofs.Staging.{seats_there}

@@ -1,7 +1,7 @@
 use Rattle.std.specs.Vec.{with_item}
 use Rattle.std.proofs.Common.{ℕ, ◌≡◌, true, ◌+◌, ◌<◌, length, get_or, slice_set, refl, ap, ◌∙◌, arith}
 use Rattle.fs_sched.specs.code.Stages.{stage_of}
-use Rattle.fs_witness.specs.declared.moments.Answer.TheVariants.{Begun}
+use Rattle.fs_sched_witness.specs.declared.moments.Answer.TheVariants.{Begun}
 use Rattle.fs_sched.proofs.Marks.{still_marked, one_more}
 use Rattle.fs_sched.proofs.OverLemmas.{none_left}
 use Rattle.fs_sched.proofs.Staging.{call_there, call_not_there, default_same}

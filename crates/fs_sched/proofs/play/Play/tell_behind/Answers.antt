@@ -1,7 +1,7 @@
 use Rattle.std.proofs.Common.{[], ◌∷◌, map}
 use Rattle.std.proofs.lemmas.Result.{on_ok_weaker}
 use Rattle.std.specs.List.{range_with_len}
-use Rattle.fs_witness.specs.Moments.{event_of, spent_of}
+use Rattle.fs_sched_witness.specs.Moments.{event_of, spent_of}
 use Rattle.fs_sched.proofs.Noting.{hears_append}
 use Rattle.fs_sched.proofs.play.Play.tell_behind.Goals as goal
 

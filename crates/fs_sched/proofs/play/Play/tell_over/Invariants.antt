@@ -1,6 +1,6 @@
 use Rattle.std.proofs.Common.{map}
 use Rattle.std.specs.List.{range_with_len}
-use Rattle.fs_witness.specs.Moments.{Hears, spent_of}
+use Rattle.fs_sched_witness.specs.Moments.{Hears, spent_of}
 use Rattle.fs_sched.proofs.play.Play.tell_over.Given as goal
 
 abbrev pub invariant-loop-seat : goal.invariant-loop-seat

@@ -1,5 +1,5 @@
 use Rattle.std.proofs.Common.{arith}
-use Rattle.fs_witness.specs.Moments.{spent_of}
+use Rattle.fs_sched_witness.specs.Moments.{spent_of}
 use Rattle.fs_sched.proofs.Noting.{hears_none, times_on, times_all}
 use Rattle.fs_sched.proofs.play.Play.tell_spent.Goals as goal
 

@@ -1,7 +1,7 @@
 use Rattle.std.proofs.Common.{ap}
 use Rattle.fs_names.specs.Limits.{in_blocks}
 use Rattle.fs_calls.specs.Tree.{Tree}
-use Rattle.fs_slab.specs.code.Nodes.{graph}
+use Rattle.fs_seq_nodes.specs.code.Nodes.{graph}
 use Rattle.fs_seq.proofs.Root.{first_node, forest_root, form_root, tree_root}
 use Rattle.fs_seq.proofs.seq_tree.SeqTree.with_limits.Goals as goal
 

@@ -2,7 +2,7 @@ use Rattle.std.proofs.Common.{◌∙◌, sym, ap, subst, List}
 use Rattle.fs_calls.specs.Outcomes.{next_start}
 use Rattle.fs_timeline.specs.Timeline.{commits}
 use Rattle.fs_timeline.specs.declared.entry.Entry.{Entry}
-use Rattle.fs_observe.specs.Lists.{Lists}
+use Rattle.fs_share_observe.specs.Lists.{Lists}
 use Rattle.fs_share.specs.Boards.{Boarded, AreBeginnings}
 use Rattle.fs_share.proofs.Publishing.{none_taken}
 use Rattle.fs_share.proofs.board.Board.again.Goals as goal

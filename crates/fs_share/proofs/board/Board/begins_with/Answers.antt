@@ -2,7 +2,7 @@ use Rattle.std.proofs.Common.{◌≡◌, Bool, true, false, length, refl, ap, su
 use mathlib.Core.List.{IsPrefix}
 use Rattle.fs_calls.specs.declared.call.Call.{Call}
 use Rattle.fs_timeline.specs.Timeline.{commits}
-use Rattle.fs_observe.proofs.Fronts.{prefix_trans}
+use Rattle.fs_share_observe.proofs.Fronts.{prefix_trans}
 use Rattle.fs_share.specs.Boards.{Boarded}
 use Rattle.fs_share.proofs.board.Board.begins_with.Goals as goal
 

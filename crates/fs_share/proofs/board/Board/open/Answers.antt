@@ -1,7 +1,7 @@
 use Rattle.std.proofs.Common.{◌∙◌, sym, ap, subst, List}
 use Rattle.fs_timeline.specs.Timeline.{commits}
 use Rattle.fs_timeline.specs.declared.entry.Entry.{Entry}
-use Rattle.fs_observe.specs.Lists.{Lists}
+use Rattle.fs_share_observe.specs.Lists.{Lists}
 use Rattle.fs_share.specs.Boards.{AreBeginnings}
 use Rattle.fs_share.proofs.Publishing.{none_taken}
 use Rattle.fs_share.proofs.board.Board.open.Goals as goal

@@ -1,6 +1,6 @@
 use Rattle.std.proofs.Common.{◌∙◌, List, ℕ, subst}
 use Rattle.std.proofs.lemmas.Result.{on_ok_weaker}
-use Rattle.fs_story.specs.Shown.{deed_shown}
+use Rattle.fs_trace_story.specs.Shown.{deed_shown}
 use Rattle.fs_trace.specs.Objects.{told_members}
 use Rattle.fs_trace.specs.code.ObjectTexts.{AddsObject}
 use Rattle.fs_trace.proofs.Objecting.{objects_more}

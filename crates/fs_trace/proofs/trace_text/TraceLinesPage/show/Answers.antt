@@ -1,6 +1,6 @@
 use Rattle.std.proofs.Common.{◌∙◌}
 use Rattle.std.proofs.lemmas.Result.{on_ok_weaker}
-use Rattle.fs_story.specs.Shown.{deed_shown}
+use Rattle.fs_trace_story.specs.Shown.{deed_shown}
 use Rattle.fs_trace.proofs.Lining.{lines_more}
 use Rattle.fs_trace.proofs.trace_text.TraceLinesPage.show.Goals as goal
 

@@ -1,0 +1,22 @@
+use Rattle.std.proofs.Common.{◌≡◌, ◌∙◌, ap, true, false, Some, ℕ}
+use Rattle.fs_sched_outcomes.specs.declared.lines.Form.{Form}
+use Rattle.atomfs_arguments.specs.declared.subcommand.Subcommand.TheVariants.{Outcomes}
+use Rattle.atomfs_arguments.proofs.Somes.{in_some}
+use Rattle.atomfs_arguments.proofs.subcommand.outcomes_of.Goals as goal
+
+pub returns-then-flag_given-clause-some : goal.returns-then-flag_given-clause-some
+returns-then-flag_given-clause-some c seed runs form add is are = let same : true ≡ false = c.if-flag_given.ensures false add in absurd cc
+
+pub returns-in-Some-clause-added : goal.returns-in-Some-clause-added
+returns-in-Some-clause-added c form add is = let same : false ≡ true = c.if-flag_given.ensures true add in absurd cc
+
+pub returns-in-Some-clause-some : goal.returns-in-Some-clause-some
+returns-in-Some-clause-some c seed runs form add is are =
+    ap (λ (f : Form). Some (Outcomes c.in-Some.numbers.0 c.in-Some.numbers.1 f)) (c.form_of-form.ensures.form form is)
+    ∙ ap (λ (n : ℕ × ℕ). Some (Outcomes n.0 n.1 form)) (in_some _ _ (c.in-Some.ensures.some seed runs are))
+
+pub returns-in-None-clause-added : goal.returns-in-None-clause-added
+returns-in-None-clause-added c form add is = let same : false ≡ true = c.if-flag_given.ensures true add in absurd cc
+
+pub returns-in-None-clause-some : goal.returns-in-None-clause-some
+returns-in-None-clause-some c seed runs form add is are = let same = c.in-None.ensures.some seed runs are in absurd cc

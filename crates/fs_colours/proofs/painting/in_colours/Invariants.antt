@@ -1,9 +1,0 @@
-use Rattle.std.proofs.Common.{length}
-use Rattle.fs_colours.specs.code.Shows.{IsPaintedUpTo}
-use Rattle.fs_colours.proofs.painting.in_colours.Given as goal
-
-abbrev pub invariant-pieces : goal.invariant-pieces
-invariant-pieces l = IsPaintedUpTo l.fn.text l.left l.painted.items
-
-abbrev pub decreases-pieces : goal.decreases-pieces
-decreases-pieces l = length l.left

@@ -1,6 +1,0 @@
-use Rattle.std.proofs.Common.{◌≡◌, drop}
-use Rattle.fs_command.specs.Statuses.{has_status}
-use Rattle.fs_command.proofs.status.has_status.Given as goal
-
-abbrev pub invariant-loop-outcome : goal.invariant-loop-outcome
-invariant-loop-outcome l = has_status l.status (drop l.outcome-index l.outcomes) ≡ has_status l.status l.outcomes

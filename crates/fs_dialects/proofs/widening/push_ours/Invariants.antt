@@ -1,6 +1,0 @@
-use Rattle.std.proofs.Common.{◌≡◌, ◌++◌, drop}
-use Rattle.fs_dialects.specs.Dialects.{ours_for}
-use Rattle.fs_dialects.proofs.widening.push_ours.Given as goal
-
-abbrev pub invariant-loop-row : goal.invariant-loop-row
-invariant-loop-row l = l.errors ++ ours_for (drop l.row-index l.rows) l.name l.theirs ≡ l.initial.errors ++ ours_for l.rows l.name l.theirs

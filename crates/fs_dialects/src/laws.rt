@@ -1,8 +1,0 @@
-//! What holds of the definitions. Each function's contract is a law, and its body is empty.
-
-ghost use Rattle.fs_dialects.specs.Laws.{WideningKeeps};
-
-/// What explains a history explains it also as it is read by a table.
-pub fn widening_keeps()
-    ensures { WideningKeeps }
-{}

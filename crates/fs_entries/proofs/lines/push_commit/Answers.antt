@@ -1,9 +1,0 @@
-use Rattle.std.proofs.Common.{◌+◌, refl, codes}
-use Rattle.std.proofs.lemmas.Result.{on_ok_weaker}
-use Rattle.fs_entries.specs.Entries.{line_text}
-use Rattle.fs_entries.proofs.lines.push_commit.Goals as goal
-
-pub returns-clause-ok : goal.returns-clause-ok
-returns-clause-ok c =
-    let line = line_text (c.args.at + 1) c.deref.result.now c.args.number (codes " commits, ") c.deref-2.result.now in
-    on_ok_weaker c.push_line.result (λ e. (line, (c.deref.result.now, c.deref-2.result.now, refl), e)) c.push_line.ensures.ok

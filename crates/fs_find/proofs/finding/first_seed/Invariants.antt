@@ -1,7 +1,0 @@
-use Rattle.std.proofs.Common.{ℕ, ◌+◌, ◌≤◌, ◌<◌, not}
-use Rattle.fs_sched.specs.declared.schedule.Schedule.TheVariants.{Seeded}
-use Rattle.fs_find.specs.Finds.{RunHas}
-use Rattle.fs_find.proofs.finding.first_seed.Given as goal
-
-abbrev pub invariant-loop-run : goal.invariant-loop-run
-invariant-loop-run g l = (k : ℕ) → l.seed ≤ k → k < l.seed + l.run → RunHas (Seeded k) l.script l.what (not l.wanted)

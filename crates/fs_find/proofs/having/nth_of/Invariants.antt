@@ -1,6 +1,0 @@
-use Rattle.std.proofs.Common.{◌≡◌, drop}
-use Rattle.fs_find.specs.Lives.{nth_from}
-use Rattle.fs_find.proofs.having.nth_of.Given as goal
-
-abbrev pub invariant-loop-at : goal.invariant-loop-at
-invariant-loop-at l = nth_from 0 l.seat l.place l.seats ≡ nth_from l.at l.seat l.left (drop l.at l.seats)

@@ -1,5 +1,0 @@
-use Rattle.fs_histories.proofs.CommutingLemmas.{apart_calls_commute}
-use Rattle.fs_histories.proofs.laws.apart_calls_commute.Goals as goal
-
-pub returns : goal.returns
-returns c = apart_calls_commute

@@ -1,5 +1,0 @@
-use Rattle.fs_histories.proofs.Reaching.{closed_set_reaches}
-use Rattle.fs_histories.proofs.laws.closed_sets_reach.Goals as goal
-
-pub returns : goal.returns
-returns c = closed_set_reaches

@@ -1,5 +1,0 @@
-use Rattle.fs_histories.proofs.NumberingLemmas.{configurations_are_few}
-use Rattle.fs_histories.proofs.laws.configurations_are_few.Goals as goal
-
-pub returns : goal.returns
-returns c = configurations_are_few

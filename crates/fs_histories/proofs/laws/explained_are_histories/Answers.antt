@@ -1,5 +1,0 @@
-use Rattle.fs_histories.proofs.FaultLemmas.{explained_are_histories}
-use Rattle.fs_histories.proofs.laws.explained_are_histories.Goals as goal
-
-pub returns : goal.returns
-returns c = explained_are_histories

@@ -1,5 +1,0 @@
-use Rattle.fs_histories.proofs.LinearizableLemmas.{explained_are_linearizable}
-use Rattle.fs_histories.proofs.laws.explained_are_linearizable.Goals as goal
-
-pub returns : goal.returns
-returns c = explained_are_linearizable

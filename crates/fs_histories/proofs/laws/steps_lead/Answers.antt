@@ -1,5 +1,0 @@
-use Rattle.fs_histories.proofs.PathLemmas.{steps_lead}
-use Rattle.fs_histories.proofs.laws.steps_lead.Goals as goal
-
-pub returns : goal.returns
-returns c = steps_lead

@@ -1,2 +1,0 @@
-mod Again
-pub mod Chains

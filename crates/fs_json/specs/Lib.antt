@@ -1,4 +1,0 @@
-pub mod Json
-pub mod Objects
-pub mod Reading
-pub mod code

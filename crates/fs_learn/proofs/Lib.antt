@@ -1,3 +1,0 @@
-pub mod LearnLemmas
-pub mod AcceptLemmas
-pub mod TableLemmas

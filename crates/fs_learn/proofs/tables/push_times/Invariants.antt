@@ -1,7 +1,0 @@
-use Rattle.std.proofs.Common.{◌≡◌, ◌++◌, take}
-use Rattle.std.specs.List.{flat_map}
-use Rattle.fs_learn.specs.Tables.{times_words}
-use Rattle.fs_learn.proofs.tables.push_times.Given as goal
-
-abbrev pub invariant-loop-theirs : goal.invariant-loop-theirs
-invariant-loop-theirs l = record { added : l.text.added ≡ l.initial.text.added ++ flat_map (times_words l.name l.ours l.rows) (take l.theirs-index l.errors); before : l.text.before ≡ l.initial.text.before }

@@ -1,6 +1,0 @@
-use Rattle.std.proofs.Common.{◌≡◌, ◌+◌, ◌≤◌, drop}
-use Rattle.fs_learn.specs.Tables.{times}
-use Rattle.fs_learn.proofs.tables.times.Given as goal
-
-abbrev pub invariant-loop-row : goal.invariant-loop-row
-invariant-loop-row l = record { all : l.count + times l.name l.ours (drop l.row-index l.rows) l.theirs ≡ times l.name l.ours l.rows l.theirs; few : l.count ≤ l.row-index }

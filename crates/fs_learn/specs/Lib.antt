@@ -1,4 +1,0 @@
-pub mod Learning
-pub mod Tables
-pub mod Laws
-pub mod code

@@ -1,0 +1,9 @@
+pub mod Names
+pub mod Errors
+pub mod Dialects
+pub mod Tables
+pub mod Laws
+pub mod Learning
+pub mod LearnedTables
+pub mod LearningLaws
+pub mod code

@@ -1,0 +1,8 @@
+use Rattle.std.proofs.Common.{◌≡◌, ◌++◌, drop}
+use Rattle.std.specs.List.{flat_map}
+use Rattle.fs_text.specs.Journal.{entry_line}
+use Rattle.fs_script.specs.Journals.{journal_text}
+use Rattle.fs_linearize_text.proofs.answer.journal_text.Given as goal
+
+abbrev pub invariant-loop-entry : goal.invariant-loop-entry
+invariant-loop-entry l = l.text.items ++ flat_map entry_line (drop l.entry-index l.journal) ≡ journal_text l.start l.journal

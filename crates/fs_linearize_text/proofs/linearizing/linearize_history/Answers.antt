@@ -1,0 +1,36 @@
+use Rattle.std.proofs.Common.{refl, subst, Err, ap, ◌≡◌, ◌≢◌}
+use Rattle.fs_verdict.specs.declared.failure.Failure.TheVariants as failure
+use Rattle.fs_verdict.specs.InputFaults.{IsFaultOf}
+use Rattle.fs_verdict.specs.declared.fault.RunFault.{RunFault}
+use Rattle.fs_verdict.specs.declared.fault.RunFault.TheVariants.{Input, Write}
+use Rattle.fs_verdict.proofs.Unmade.{unmade, unwritten}
+use Rattle.fs_linearize_text.specs.Texts.{history_of}
+use Rattle.fs_linearize_text.proofs.InputLemmas.{short}
+use Rattle.fs_linearize_text.proofs.FoundLemmas.{known, known_written, no_history, IsTold, told_made}
+use Rattle.fs_linearize_text.proofs.linearizing.linearize_history.Goals as goal
+
+abbrev gives : RunFault → RunFault → Type 0
+gives fault x = x ≡ fault
+
+pub returns-in-Ok-clause-found : goal.returns-in-Ok-clause-found
+returns-in-Ok-clause-found g c =
+    let told = c.in-Ok.ensures.made in
+    let found = told.4.1.ok in
+    known c.args.dialect.now _ _ _ (IsTold _ _ c.in-Ok.told _ _) refl told.2 (told_made _ _ c.in-Ok.told _ _ _ found.0 found.1 told.1 found.2 found.3 told.5 told.6)
+
+pub returns-in-Ok-clause-end : goal.returns-in-Ok-clause-end
+returns-in-Ok-clause-end g c = let told = c.in-Ok.ensures.made in let found = told.4.1.ok in told.3 (short (history_of c.args.dialect.now) (no_history c.args.dialect.now) told.0.items _ found.0 refl found.2)
+
+pub returns-in-Err-clause-input : goal.returns-in-Err-clause-input
+returns-in-Err-clause-input g c f e =
+    let told = c.in-Err.ensures.unmade (Input f) (ap Err (unmade gives _ _ (Input f) c.between.ensures (cc) (λ z. cc) (λ z. cc) (λ z. cc))) in
+    known c.args.dialect.now _ _ _ (λ given. given ≡ Err f) refl told.1 told.2.1.fault
+
+pub returns-in-Err-clause-beginning : goal.returns-in-Err-clause-beginning
+returns-in-Err-clause-beginning g c e =
+    let never : (f : RunFault) → c.in-Err.failure ≡ failure.Unmade f → f ≢ Write = λ f same wrong.
+    let told = c.in-Err.ensures.unmade f (ap Err same) in
+    subst (IsFaultOf (history_of c.args.dialect.now told.0.items)) wrong told.2.1.fault in
+    let told = c.in-Err.ensures.beginning (ap Err (unwritten gives _ _ Write c.between.ensures (cc) (λ z. cc) (λ z. cc) never)) in
+    let found = told.3.1.ok in
+    known_written c.args.dialect.now _ _ _ _ _ _ _ found.0 found.1 told.1 refl told.2 found.2 found.3 told.4

@@ -1,2 +1,0 @@
-pub mod Asserts
-pub mod code

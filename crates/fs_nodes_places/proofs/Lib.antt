@@ -1,0 +1,12 @@
+pub mod EditLemmas
+pub mod HintLemmas
+pub mod PlaceLemmas
+pub mod AscentLemmas
+pub mod PickLemmas
+pub mod GraphLemmas
+pub mod StoreLemmas
+pub mod PlainEditLemmas
+pub mod ExchangeLemmas
+pub mod RealLemmas
+pub mod FormLemmas
+pub mod SwapLemmas

@@ -1,0 +1,4 @@
+pub mod Plains
+pub mod Stores
+pub mod Seen
+pub mod code

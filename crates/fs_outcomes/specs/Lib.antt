@@ -1,6 +1,0 @@
-pub mod Ends
-pub mod Sums
-pub mod Outcomes
-pub mod Lines
-pub mod Added
-pub mod code

@@ -1,6 +1,0 @@
-use Rattle.std.proofs.Common.{◌≡◌}
-use Rattle.fs_places.specs.code.Hints.{bared}
-use Rattle.fs_places.proofs.hints.remove.Given as goal
-
-abbrev pub invariant-loop : goal.invariant-loop
-invariant-loop l = bared l.places ≡ bared l.fn.places

@@ -1,7 +1,0 @@
-use Rattle.std.proofs.Common.{refl}
-use Rattle.fs_places.specs.code.Keys.{folded}
-use Rattle.fs_places.proofs.key.folded.Goals as goal
-
-pub returns : goal.returns
-unfolding folded
-returns c = refl

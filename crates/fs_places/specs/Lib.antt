@@ -1,2 +1,0 @@
-pub mod Plains
-pub mod code

@@ -1,5 +1,0 @@
-use Rattle.fs_pool.proofs.Keeps.{begins}
-use Rattle.fs_pool.proofs.queue.job_queue.Goals as goal
-
-pub ruled-requires-clause-rule : goal.ruled-requires-clause-rule
-ruled-requires-clause-rule c = begins

@@ -1,5 +1,0 @@
-use Rattle.fs_pool.proofs.Keeps.{forks}
-use Rattle.fs_pool.proofs.queue.worker_pass.Goals as goal
-
-pub another-requires-clause-rule : goal.another-requires-clause-rule
-another-requires-clause-rule c = forks _ _ c.requires.part

@@ -1,5 +1,0 @@
-use Rattle.fs_rows.proofs.PlainReplies.{earlier_replies_are_plain}
-use Rattle.fs_rows.proofs.laws.earlier_replies_are_plain.Goals as goal
-
-pub returns : goal.returns
-returns c = earlier_replies_are_plain

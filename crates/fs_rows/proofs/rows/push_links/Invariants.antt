@@ -1,8 +1,0 @@
-use Rattle.std.proofs.Common.{◌≡◌, ◌++◌, drop, reverse}
-use Rattle.fs_slab.specs.code.Nodes.{pairs}
-use Rattle.fs_rows.specs.code.Walks.{entries_below}
-use Rattle.fs_rows.proofs.rows.push_links.Given as goal
-
--- the entries behind are ahead, the last one first
-abbrev pub invariant-loop-i : goal.invariant-loop-i
-invariant-loop-i l = l.ahead.items ≡ l.fn.ahead.items ++ reverse (entries_below l.key (pairs (drop l.i l.links)))

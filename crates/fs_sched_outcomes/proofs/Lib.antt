@@ -1,0 +1,9 @@
+pub mod AddLemmas
+pub mod HeardLemmas
+pub mod RowLemmas
+pub mod OutcomeLemmas
+pub mod StopLemmas
+pub mod ListLemmas
+pub mod AddingLemmas
+pub mod Holding
+pub mod Deciding

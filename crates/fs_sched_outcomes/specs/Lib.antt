@@ -1,0 +1,7 @@
+pub mod Ends
+pub mod Sums
+pub mod Outcomes
+pub mod Lines
+pub mod Added
+pub mod Asserts
+pub mod code

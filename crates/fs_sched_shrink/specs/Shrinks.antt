@@ -1,0 +1,54 @@
+-- The smallest script that still has something.
+use Rattle.std.specs.Prelude.{ℕ, ◌≡◌, ◌<◌, ◌⊎◌, Bool, true, false, List, [], length, slice_set, get_or, Ok, Option, Some, None}
+use Rattle.fs_script.specs.Limits.{calls_in}
+use Rattle.fs_script.specs.Script.{script_of}
+use Rattle.fs_script.specs.declared.script.Script.{Script}
+use Rattle.fs_sched.specs.Runs.{StopsBy}
+use Rattle.fs_sched.specs.declared.schedule.Schedule.TheVariants.{Given}
+use Rattle.fs_verdict.specs.declared.fault.RunFault.TheVariants.{UnderWay}
+use Rattle.fs_sched_find.specs.Finds.{RunHas}
+use Rattle.fs_sched_find.specs.What.{names_calls}
+use Rattle.fs_sched_find.specs.declared.what.Clause.{Clause}
+use Rattle.fs_sched_shrink.specs.Kept.{kept_script, items_in}
+use Rattle.fs_sched_shrink.specs.Moves.{moved, is_named}
+use Rattle.fs_sched_shrink.specs.Telling.{what_text}
+use Rattle.fs_sched_shrink.specs.declared.shrinking.Shrunk.{Shrunk}
+use Rattle.fs_sched_shrink.specs.declared.limits.TheConstants.{TRIAL_LIMIT}
+
+-- the run of a script by its own words has what is said; or it has not, or there is no such run, as it comes to a checkpoint while calls are under way
+abbrev pub IsTried : Script → List (List Clause) → Bool → Type 0
+IsTried script what true = RunHas Given script what true
+IsTried script what false = RunHas Given script what false ⊎ ((c : ℕ) × StopsBy Given script (UnderWay c))
+
+-- the same of the script with those of its calls and words that stay, where what is said names its calls by their new places
+abbrev pub IsKept : Script → List (List Clause) → List Bool → Bool → Type 0
+IsKept script what kept b = IsTried (kept_script kept script) (moved kept script what) b
+
+-- flags of the calls and words of a script: the calls that are named stay, and the script has what is said
+pub record IsShrunk (script : Script) (what : List (List Clause)) (kept : List Bool) : Type 0 where
+  pub sized : length kept ≡ items_in script
+  pub named : (at : ℕ) → at < length kept → is_named script what at ≡ true → get_or kept at false ≡ true
+  pub has : IsKept script what kept true
+
+-- of those that stay no call that is not named, and no word, can go
+abbrev pub IsSmallest : Script → List (List Clause) → List Bool → Type 0
+IsSmallest script what kept = (at : ℕ) → get_or kept at false ≡ true → is_named script what at ≡ false → IsKept script what (slice_set kept at false) false
+
+-- what was made of a script by its flags: it is read back as the script with what stays, of which so much is told
+pub record IsMade (script : Script) (what : List (List Clause)) (kept : List Bool) (shrunk : Shrunk) (text : List ℕ) : Type 0 where
+  pub stays : IsShrunk script what kept
+  pub read : script_of text ≡ Ok (kept_script kept script)
+  pub calls : shrunk.calls ≡ calls_in (kept_script kept script).lists
+  pub words : shrunk.words ≡ length (kept_script kept script).words
+  pub said : shrunk.said.items ≡ what_text (moved kept script what)
+  pub smallest : shrunk.is_smallest ≡ true → IsSmallest script what kept
+  pub stopped : shrunk.is_smallest ≡ false → shrunk.runs ≡ TRIAL_LIMIT
+
+-- what is made of a script: nothing where its run has not what is said
+abbrev pub IsShrinking : Script → List (List Clause) → Option Shrunk → List ℕ → Type 0
+IsShrinking script what None text = RunHas Given script what false × (text ≡ [])
+IsShrinking script what (Some shrunk) text = (kept : List Bool) × IsMade script what kept shrunk text
+
+-- the same of the script that an input has
+abbrev pub IsShrinkingOf : List (List Clause) → List ℕ → Option Shrunk → List ℕ → Type 0
+IsShrinkingOf what input end text = (script : Script) × (script_of input ≡ Ok script) × (names_calls script what ≡ true) × IsShrinking script what end text

@@ -1,0 +1,154 @@
+-- Runs from a tree: what is said of one is said of each.
+use Rattle.std.proofs.Common.{◌≡◌, ◌≢◌, ◌<◌, ◌^◌, ℕ, true, List, [], length, Result, Ok, refl, sym, ap, ◌∙◌, subst}
+use Rattle.std.specs.List.{list_any}
+use Rattle.fs_names.specs.Limits.{node_limit}
+use Rattle.fs_calls.specs.Starts.{Start}
+use Rattle.fs_calls.specs.declared.call.Call.{Call}
+use Rattle.fs_nodes.specs.Stores.{graph_of}
+use Rattle.fs_timeline.specs.declared.entry.Entry.{Entry}
+use Rattle.fs_core.specs.CoreValues.{CoreValue, state_of}
+use Rattle.fs_machine.specs.States.{State, Run, Starting, IsStart, fresh}
+use Rattle.fs_laws.proofs.journal.ViewOfTimeline.{linearizes}
+use Rattle.fs_linearizable.proofs.LawfulLemmas.{lawful_is_linearizable}
+use Rattle.fs_laws.proofs.Again.{begins_again}
+use Rattle.fs_words.specs.declared.fault.ScriptFault.{ScriptFault}
+use Rattle.fs_script.specs.Journals.{start_of}
+use Rattle.fs_script.specs.Script.{script_of}
+use Rattle.fs_script.specs.declared.script.Script.{Script}
+use Rattle.fs_sched.specs.Devices.{IsFaultOf}
+use Rattle.fs_sched.specs.EachRun.{HasShortNames, SomeIsReadAgain}
+use Rattle.fs_sched.specs.Laws.{AreOneRun}
+use Rattle.fs_sched.specs.Runs.{Stage, before_all, StopsFrom, AreOfRun, IsOutputFrom, IsWhole, HasFinish}
+use Rattle.fs_sched.specs.Schedules.{is_finish}
+use Rattle.fs_sched.specs.code.Mades.{IsRead}
+use Rattle.fs_sched.specs.code.Stages.{IsWhy}
+use Rattle.fs_sched.specs.declared.running.RunEnd.{RunEnd}
+use Rattle.fs_sched.specs.declared.schedule.Schedule.{Schedule}
+use Rattle.fs_sched.specs.declared.schedule.Schedule.TheVariants.{Given}
+use Rattle.fs_sched.proofs.OneText.{Same, one_from, of_one, one_again}
+use Rattle.fs_sched.proofs.Whole.{ListFacts, kept_fresh, last_keeps, whole_end, always_goes_on, finish_goes_on}
+use Rattle.fs_verdict.specs.declared.fault.RunFault.{RunFault}
+use Rattle.fs_verdict.specs.declared.fault.RunFault.TheVariants as run
+use Rattle.fs_sched_start.specs.Laws.{OneRunFrom}
+use Rattle.fs_sched_start.specs.Starts.{IsBefore, RunsAt, AreGiven, IsRunAt, AreOfEachRunAt, AreOfTheRunAt, IsLinearizableRunAt, EachIsReadAgainAt, IsFaultAt}
+use Rattle.fs_sched_start.specs.code.Mades.{IsCoreAt, IsNoCore}
+use Rattle.fs_sched_start.specs.declared.fault.StartFault.{StartFault}
+use Rattle.fs_sched_start.specs.declared.fault.StartFault.TheVariants.{Run as Runs, Tree}
+use Rattle.fs_sched_start.proofs.SameStarts.{starts_alike}
+use Rattle.fs_script.proofs.StartNames.{short_start}
+
+-- ---- two runs
+
+same_before : (start : Start) (threads : ℕ) (a b : Stage) → IsBefore start threads a → IsBefore start threads b → Same a b
+same_before start threads a b (g, is_g, e) (h, is_h, f) =
+    subst (λ (x : Stage). Same x b) (sym e)
+    (subst (λ (x : Stage). Same (before_all (fresh (node_limit start.limits) start g) threads) x) (sym f) (record {
+      run = Starting (node_limit start.limits) start g is_g;
+      other = Starting (node_limit start.limits) start h is_h;
+      alike = starts_alike (node_limit start.limits) start g h is_g is_h;
+      begun = refl;
+    }))
+
+pub one_run_from : OneRunFrom
+one_run_from schedule script start told other a b (first, is, runs) (second, is_second, runs_second) = one_from schedule script first second told other a b (same_before start (length script.lists) first second is is_second) runs runs_second
+
+-- the script and the tree are one
+script_is : (script other : Script) → ◌≡◌ {A = Result Script ScriptFault} (Ok other) (Ok script) → other ≡ script
+script_is script other e = cc
+
+start_is : (start other : Start) → ◌≡◌ {A = Result Start ScriptFault} (Ok other) (Ok start) → other ≡ start
+start_is start other e = cc
+
+record AreSame (script other : Script) (start begin : Start) : Type 0 where
+  scripts : other ≡ script
+  starts : begin ≡ start
+
+given_same : (tree input : List ℕ) (script other : Script) (start begin : Start) → AreGiven tree input script start → AreGiven tree input other begin → AreSame script other start begin
+given_same tree input script other start begin (is, at) (is_other, at_other) =
+    let y : other ≡ script = script_is script other (sym is_other ∙ is) in
+    record { scripts = y; starts = start_is start begin (sym at_other ∙ ap (λ (s : Script). start_of s.limits tree) y ∙ at) }
+
+moved : (schedule : Schedule) (script other : Script) (start begin : Start) (told : List Entry) (last : Stage) → AreSame script other start begin → RunsAt schedule other begin told last → RunsAt schedule script start told last
+moved schedule script other start begin told last same runs = subst (λ (t : Start). RunsAt schedule script t told last) same.starts (subst (λ (s : Script). RunsAt schedule s begin told last) same.scripts runs)
+
+pub of_each_at : (schedule : Schedule) (tree input : List ℕ) (end : RunEnd) (text : List ℕ) → IsRunAt schedule tree input end text → AreOfTheRunAt schedule tree input end text
+of_each_at schedule tree input end text (script, start, given, told, a, runs, are) = record { some = (script, start, given, told, a, runs, are); each = each }
+  where
+    each : AreOfEachRunAt schedule tree input end text
+    each other begin more b given_other runs_other =
+        let same : AreSame script other start begin = given_same tree input script other start begin given given_other in
+        let one : AreOneRun told more a b = one_run_from schedule script start told more a b runs (moved schedule script other start begin more b same runs_other) in
+        subst (λ (s : Script). AreOfRun s more b end text) (sym same.scripts) (of_one script told more a b end text one are)
+
+each_again_at : (schedule : Schedule) (tree input : List ℕ) (script : Script) (start : Start) (first : Stage) → AreGiven tree input script start → IsBefore start (length script.lists) first → SomeIsReadAgain schedule script first → EachIsReadAgainAt schedule tree input
+each_again_at schedule tree input script start first given before (told, a, runs, again) other begin more b given_other runs_other =
+    let same : AreSame script other start begin = given_same tree input script other start begin given given_other in
+    one_again told more a b (one_run_from schedule script start told more a b (first, before, runs) (moved schedule script other start begin more b same runs_other)) again
+
+-- ---- from a core
+
+module _ (schedule : Schedule) (tree input : List ℕ) (script : Script) (core : CoreValue) (is : script_of input ≡ Ok script) (at : IsCoreAt script.limits tree core) where
+  are_given : AreGiven tree input script core.start
+  are_given = (is, at.start)
+
+  pub before_at : IsBefore core.start (length script.lists) (before_all (state_of core) (length script.lists))
+  before_at = (graph_of core.store, at.begins, ap (λ (s : State). before_all s (length script.lists)) at.fresh)
+
+  pub output_at : (end : RunEnd) (text : List ℕ) → IsOutputFrom schedule script (before_all (state_of core) (length script.lists)) end text → IsRunAt schedule tree input end text
+  output_at end text (told, last, runs, are) = (script, core.start, are_given, told, last, (before_all (state_of core) (length script.lists), before_at, runs), are)
+
+  pub again_at : (IsRead script → core.start.limits ≡ script.limits → HasShortNames script.limits core.start.tree → SomeIsReadAgain schedule script (before_all (state_of core) (length script.lists))) → EachIsReadAgainAt schedule tree input
+  again_at again =
+      let keeps : (core.start.limits ≡ script.limits) × HasShortNames script.limits core.start.tree = short_start script.limits tree core.start at.start in
+      each_again_at schedule tree input script core.start (before_all (state_of core) (length script.lists)) are_given before_at (again (input, is) keeps.0 keeps.1)
+
+  pub stop_at : (fault : RunFault) → IsWhy (StopsFrom schedule script (before_all (state_of core) (length script.lists))) fault → IsFaultAt schedule tree input (Runs fault)
+  stop_at (run.Input f) why = absurd why
+  stop_at run.Read why = absurd why
+  stop_at run.Write why = absurd why
+  stop_at run.OutOfMemory why = tt
+  stop_at run.Full why = (script, core.start, are_given, (before_all (state_of core) (length script.lists), before_at, why))
+  stop_at (run.UnderWay c) why = (script, core.start, are_given, (before_all (state_of core) (length script.lists), before_at, why))
+
+-- where nothing has begun, the tree is one at which a timeline can begin
+pub core_begins : (limit : ℕ) (core : CoreValue) → state_of core ≡ fresh limit core.start (graph_of core.store) → Run (state_of core) → IsStart limit core.start (graph_of core.store)
+core_begins limit core is run = begins_again (fresh limit core.start (graph_of core.store)) (subst Run is run) (λ c. refl)
+
+-- there is no script, or no tree
+pub of_input : (schedule : Schedule) (tree input : List ℕ) (fault : RunFault) → IsFaultOf (script_of input) fault → IsFaultAt schedule tree input (Runs fault)
+of_input schedule tree input (run.Input f) is = is
+of_input schedule tree input run.Read is = is
+of_input schedule tree input run.Write is = is
+of_input schedule tree input run.OutOfMemory is = is
+of_input schedule tree input run.Full is = absurd is
+of_input schedule tree input (run.UnderWay c) is = absurd is
+
+pub of_tree : (schedule : Schedule) (tree input : List ℕ) (script : Script) (fault : StartFault) → script_of input ≡ Ok script → IsNoCore script.limits tree fault → IsFaultAt schedule tree input fault
+of_tree schedule tree input script (Runs (run.Input f)) is none = absurd none
+of_tree schedule tree input script (Runs run.Read) is none = absurd none
+of_tree schedule tree input script (Runs run.Write) is none = absurd none
+of_tree schedule tree input script (Runs run.OutOfMemory) is none = tt
+of_tree schedule tree input script (Runs run.Full) is none = absurd none
+of_tree schedule tree input script (Runs (run.UnderWay c)) is none = absurd none
+of_tree schedule tree input script (Tree f) is none = (script, is, none)
+
+-- ---- where rounds to the end follow
+
+kept_before : (lists : List (List Call)) (start : Start) (first : Stage) → IsBefore start (length lists) first → ListFacts lists [] first
+kept_before lists start first (graph, is, e) = subst (ListFacts lists []) (sym e) (kept_fresh lists (node_limit start.limits) start graph (Starting (node_limit start.limits) start graph is))
+
+pub whole_at : (schedule : Schedule) (tree input : List ℕ) (end : RunEnd) (text : List ℕ) → IsRunAt schedule tree input end text → end.begun < 2 ^ 64 → schedule ≢ Given → IsWhole end
+whole_at schedule tree input end text (script, start, both, told, last, (first, before, runs), (ended, spelled)) fits other =
+    whole_end schedule script first told last end (kept_before script.lists start first before) runs ended (always_goes_on schedule script.words other) fits
+
+pub finish_at : (schedule : Schedule) (tree input : List ℕ) (end : RunEnd) (text : List ℕ) → IsRunAt schedule tree input end text → end.begun < 2 ^ 64 → HasFinish input → IsWhole end
+finish_at schedule tree input end text (script, start, (is, at), told, last, (first, before, runs), (ended, spelled)) fits (other, is_other, has) =
+    let y : other ≡ script = script_is script other (sym is_other ∙ is) in
+    whole_end schedule script first told last end (kept_before script.lists start first before) runs ended (finish_goes_on schedule script.words (subst (λ (s : Script). list_any is_finish s.words ≡ true) y has)) fits
+
+-- ---- the history of a run is linearizable
+
+pub linearizable_at : (schedule : Schedule) (tree input : List ℕ) (end : RunEnd) (text : List ℕ) → IsRunAt schedule tree input end text → IsLinearizableRunAt schedule tree input text
+linearizable_at schedule tree input end text (script, start, given, told, last, (first, before, runs), (ended, spelled)) =
+    let run : Run last.state = (last_keeps schedule script first told last (kept_before script.lists start first before) runs).run in
+    (script, start, given, told, last, (first, before, runs), spelled, lawful_is_linearizable last.state.start last.state.timeline (linearizes last.state run).lawful)

@@ -1,0 +1,5 @@
+use Rattle.fs_sched_start.proofs.SameStarts.{starts_alike}
+use Rattle.fs_sched_start.proofs.laws.starts_are_alike.Goals as goal
+
+pub returns : goal.returns
+returns c = starts_alike

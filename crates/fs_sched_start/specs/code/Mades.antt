@@ -1,0 +1,35 @@
+-- What is made of the texts of a script and of a tree, before it is written.
+use Rattle.std.specs.Prelude.{◌≡◌, ℕ, [], List, Result, Ok, IfOk, OnOk, IfErr}
+use Rattle.fs_names.specs.Limits.{node_limit}
+use Rattle.fs_names.specs.declared.limits.Limits.{Limits}
+use Rattle.fs_nodes.specs.Stores.{graph_of}
+use Rattle.fs_core.specs.CoreValues.{CoreValue, state_of}
+use Rattle.fs_verdict.specs.declared.shell.Made.{Made}
+use Rattle.fs_machine.specs.States.{IsStart, fresh}
+use Rattle.fs_script.specs.Journals.{start_of}
+use Rattle.fs_sched.specs.declared.running.RunEnd.{RunEnd}
+use Rattle.fs_sched.specs.declared.schedule.Schedule.{Schedule}
+use Rattle.fs_verdict.specs.declared.fault.RunFault.TheVariants as run
+use Rattle.fs_sched_start.specs.Faults.{IsTreeFault}
+use Rattle.fs_sched_start.specs.Starts.{IsRunAt, EachIsReadAgainAt, IsFaultAt}
+use Rattle.fs_sched_start.specs.declared.fault.StartFault.{StartFault}
+use Rattle.fs_sched_start.specs.declared.fault.StartFault.TheVariants.{Run, Tree}
+
+-- a core at the tree that a text has by these limits, on which nothing has begun
+pub record IsCoreAt (limits : Limits) (text : List ℕ) (core : CoreValue) : Type 0 where
+  pub start : start_of limits text ≡ Ok core.start
+  pub fresh : state_of core ≡ fresh (node_limit core.start.limits) core.start (graph_of core.store)
+  pub seats : core.seats ≡ []
+  pub begins : IsStart (node_limit core.start.limits) core.start (graph_of core.store)
+
+-- why there is none: the text's fault, or out of memory
+abbrev pub IsNoCore : Limits → List ℕ → StartFault → Type 0
+IsNoCore limits text (Run run.OutOfMemory) = Unit {0}
+IsNoCore limits text (Run f) = ⊥
+IsNoCore limits text (Tree f) = IsTreeFault limits text f
+
+-- the text of a run from a tree, and how it ended; or why there is none
+pub record MakesRunAt (schedule : Schedule) (tree : List ℕ) (input : List ℕ) (result : Result (Made RunEnd) StartFault) : Type 0 where
+  pub output : IfOk result (λ made. IsRunAt schedule tree input made.end made.text.items)
+  pub again : OnOk result (EachIsReadAgainAt schedule tree input)
+  pub fault : IfErr result (IsFaultAt schedule tree input)

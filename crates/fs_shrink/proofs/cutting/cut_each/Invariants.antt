@@ -1,5 +1,0 @@
-use Rattle.fs_shrink.specs.code.Passes.{IsTrying}
-use Rattle.fs_shrink.proofs.cutting.cut_each.Given as goal
-
-abbrev pub invariant-loop-at : goal.invariant-loop-at
-invariant-loop-at l = IsTrying l.script l.what l.fn.kept.items l.kept.items l.at l.fn.runs l.runs l.pass

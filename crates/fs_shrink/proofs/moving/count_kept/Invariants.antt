@@ -1,6 +1,0 @@
-use Rattle.std.proofs.Common.{◌≡◌, ◌≤◌}
-use Rattle.fs_shrink.specs.Moves.{kept_count}
-use Rattle.fs_shrink.proofs.moving.count_kept.Given as goal
-
-abbrev pub invariant-loop-at : goal.invariant-loop-at
-invariant-loop-at l = (l.count ≡ kept_count l.at l.kept) × (l.count ≤ l.at)

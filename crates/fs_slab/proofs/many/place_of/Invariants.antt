@@ -1,7 +1,0 @@
-use Rattle.std.proofs.Common.{◌≡◌, ◌+◌}
-use Rattle.fs_slab.specs.code.Lists.{before}
-use Rattle.fs_slab.proofs.many.place_of.Given as goal
-
--- the entries so far
-abbrev pub invariant-loop-j : goal.invariant-loop-j
-invariant-loop-j l = l.place ≡ before l.lists l.j + l.at

@@ -1,5 +1,0 @@
-use Rattle.fs_start.proofs.SameStarts.{starts_alike}
-use Rattle.fs_start.proofs.laws.starts_are_alike.Goals as goal
-
-pub returns : goal.returns
-returns c = starts_alike
