@@ -1718,8 +1718,11 @@ class Listed(Page):
         """docs/MACHINE.md has each law of the machine and of its runs, by the name of the function that states it."""
         laws = [
             name
-            for crate in ("fs_machine", "fs_laws", "fs_laws", "fs_laws")
-            for name in re.findall(r"^pub fn (\w+)\(", source(f"{crate}/src/laws.rt"), re.M)
+            for file in (
+                "fs_machine/src/laws.rt",
+                *(f"fs_laws/src/{part}.rt" for part in ("laws", "numbers", "endings")),
+            )
+            for name in re.findall(r"^pub fn (\w+)\(", source(file), re.M)
         ]
         shown = [name for names, _ in table(DOCS / "MACHINE.md", "Law", "Says") for name in spans(names)]
         self.agrees("the laws", sorted(shown), sorted(laws))
@@ -1849,7 +1852,10 @@ class Numbers(Sentences):
         stack = (ROOT / "tests" / "limits.py").read_text()
         rows = (
             (EXAMPLES, f"`tests/data/worked` has {len(inputs)} more scripts, journals and broken texts"),
-            (RATTLE, f"There are places for {constants('fs_share_observe/src/publisher.rt')['READER_PLACES']} observers"),
+            (
+                RATTLE,
+                f"There are places for {constants('fs_share_observe/src/publisher.rt')['READER_PLACES']} observers",
+            ),
             (
                 EMBEDDING,
                 f"`embed/checks.c`, {len((ROOT / 'embed' / 'checks.c').read_text().splitlines())} lines that are not proved",
