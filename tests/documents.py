@@ -241,6 +241,10 @@ class Pages(Page):
         words = len(page.read_text().split())
         self.same(f"{page.name}, in words", max(words, most), most)
 
+    def test_each_crate(self) -> None:
+        """Each crate of the product has a page, and no other crate has one."""
+        self.same("the crates with a page", [page.parent.name for page in OF_CRATES], sorted(promises.product()))
+
     def test_of_crates(self) -> None:
         """A crate's page is short, says what for and where to enter, and its paths are those of the crate, or begin with the name of another."""
         self.each(((page.parent.name, page) for page in OF_CRATES), self.look_at_crate)
