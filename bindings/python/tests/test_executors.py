@@ -105,6 +105,26 @@ class Processes(unittest.TestCase):
             with self.assertRaises(FileNotFoundError):
                 explore(THREADS, passes, runs=10, before=_bad, executor=executor)
 
+    def test_not_sent(self) -> None:
+        """A function that no process can be sent is named before any run; threads take it."""
+
+        def local(tree: atomfs.Tree) -> None:
+            tree.mknod("/n")
+
+        rows: typing.Iterable[typing.Tuple[str, typing.Any, typing.Any, typing.Any]] = (
+            ("thread b", {"a": add, "b": local}, passes, zero),
+            ("check", THREADS, lambda tree, replies: True, zero),
+            ("before", THREADS, passes, local),
+        )
+        with concurrent.futures.ProcessPoolExecutor(1) as executor:
+            for name, threads, check, before in rows:
+                with self.assertRaisesRegex(TypeError, f"^{name} cannot be sent to a process, as a function of a mod"):
+                    explore(threads, check, runs=10, before=before, executor=executor)
+            with self.assertRaisesRegex(TypeError, "^observe cannot be sent to a process"):
+                atomfs.outcomes(THREADS, lambda tree, replies: 1, 10, before=zero, executor=executor)
+        with concurrent.futures.ThreadPoolExecutor(1) as threads_alone:
+            self.assertEqual(explore({"a": local}, lambda tree, replies: True, runs=5, executor=threads_alone), 5)
+
 
 def _any(tree: atomfs.Tree, replies: typing.Dict[str, object]) -> None:
     pass

@@ -4,6 +4,7 @@ from __future__ import annotations
 import collections
 import concurrent.futures
 import os
+import pickle
 from typing import Any, Callable, Deque, List, NamedTuple, Optional, Tuple
 
 from .bar import Bar
@@ -53,6 +54,8 @@ class _Handed:
     """Hands ranges out, and takes what comes of them in the order of the seeds."""
 
     def __init__(self, executor: Any, given: Given, first: int, count: int) -> None:
+        if isinstance(executor, concurrent.futures.ProcessPoolExecutor):
+            _check_sent(given)
         self._executor, self._given, self._next, self._end = executor, given, first, first + count
         self._own: List[Any] = []
         self._ranges: Deque[_Range] = collections.deque()
@@ -111,6 +114,18 @@ class _Handed:
         words = {"mp_context": kept._mp_context, "initializer": kept._initializer, "initargs": kept._initargs}
         self._executor = concurrent.futures.ProcessPoolExecutor(kept._max_workers, **words)
         self._own.append(self._executor)
+
+
+def _check_sent(given: Given) -> None:
+    """Raises for what cannot be sent to a process, which would be told at the other end of a queue."""
+    threads, check, options, _ = given
+    named = [("check", check), ("before", options["before"]), ("observe", options.get("observe"))]
+    for name, one in [*((f"thread {name}", one) for name, one in threads.items()), *named]:
+        try:
+            pickle.dumps(one)
+        except Exception as error:
+            # What cannot be sent raises one of several errors.
+            raise TypeError(f"{name} cannot be sent to a process, as a function of a module can: {error}") from None
 
 
 def _is_lost(error: BaseException) -> bool:
