@@ -76,8 +76,11 @@ struct State {
     turn: Option<usize>,
     is_stopped: bool,
     most: u64,
-    /// Whose turn it was before each event, and the events.
+    /// Which threads have a pending call.
+    pending: Vec<bool>,
+    /// Whose turn it was before each event; of each turn, whether the thread of the one before had a pending call.
     order: Vec<usize>,
+    half_way: Vec<bool>,
     events: Vec<Event>,
 }
 
@@ -93,8 +96,18 @@ impl State {
         let able: Vec<usize> = live.iter().copied().filter(|at| !self.waits[*at]).collect();
         let next = self.chooser.choose(if able.is_empty() { &live } else { &able }, yielding);
         self.is_stopped |= self.order.len() as u64 >= self.most;
+        self.half_way.push(self.order.last().map_or(false, |last| self.pending[*last]));
         self.order.push(next);
         self.turn = Some(next);
+    }
+
+    /// Notes an event, and whether the call is pending after it.
+    fn note(&mut self, event: Event, pending: bool) {
+        // What is done before the threads start has none of their places.
+        if let Some(of_thread) = self.pending.get_mut(event.thread) {
+            *of_thread = pending;
+        }
+        self.events.push(event);
     }
 }
 
@@ -125,7 +138,9 @@ impl Baton {
             turn: None,
             is_stopped: false,
             most,
+            pending: vec![false; threads],
             order: Vec::new(),
+            half_way: Vec::new(),
             events: Vec::new(),
         };
         let turns = (0..threads).map(|_| Condvar::new()).collect();
@@ -201,18 +216,27 @@ impl Baton {
         state.order.len() as u64 > state.most
     }
 
-    /// What is left of the run: the order, the events and the tree.
-    pub(crate) fn taken(&self) -> Result<(Vec<usize>, Vec<Event>, Tree), Error> {
+    /// What is left of the run.
+    pub(crate) fn taken(&self) -> Result<Taken, Error> {
         let mut state = self.held();
         let tree = match state.tree.take() {
             Some(tree) => tree,
             None => Tree::new()?,
         };
-        let most = state.most;
-        let mut order = std::mem::take(&mut state.order);
-        order.truncate(usize::try_from(most).unwrap_or(usize::MAX));
-        Ok((order, std::mem::take(&mut state.events), tree))
+        let most = usize::try_from(state.most).unwrap_or(usize::MAX);
+        let (mut order, mut half_way) = (std::mem::take(&mut state.order), std::mem::take(&mut state.half_way));
+        order.truncate(most);
+        half_way.truncate(most);
+        Ok(Taken { order, half_way, events: std::mem::take(&mut state.events), tree })
     }
+}
+
+/// What is left of a run.
+pub(crate) struct Taken {
+    pub(crate) order: Vec<usize>,
+    pub(crate) half_way: Vec<bool>,
+    pub(crate) events: Vec<Event>,
+    pub(crate) tree: Tree,
 }
 
 /// A thread's way into the tree of a run. [`explore`](crate::explore()) decides before each begin and each step of a
@@ -302,7 +326,7 @@ impl Calls for ThreadTree {
                 return Err(over());
             }
         };
-        state.events.push(Event { thread, call: number, kind, did: None, at });
+        state.note(Event { thread, call: number, kind, did: None, at }, true);
         loop {
             drop(state);
             state = self.turn_to_go()?;
@@ -313,7 +337,9 @@ impl Calls for ThreadTree {
                     return Err(over());
                 }
             };
-            state.events.push(Event { thread, call: number, kind, did: Some(did), at });
+            let event = Event { thread, call: number, kind, did: Some(did), at };
+            let is_end = event.is_end();
+            state.note(event, !is_end);
             match did {
                 Did::WaitsFor(_) => state.waits[thread] = true,
                 Did::LetGo(_) => state.waits.fill(false),

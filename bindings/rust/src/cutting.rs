@@ -1,4 +1,5 @@
-//! Cuts the schedule of a run that failed down: to the fewest switches between threads, and then to the fewest events.
+//! Cuts the schedule of a run that failed down: to the fewest switches between threads, then to the fewest calls, and
+//! then to the fewest switches in the midst of a call.
 
 use std::rc::Rc;
 
@@ -33,10 +34,10 @@ impl<'p, R: Send + 'static> Player<'_, 'p, R> {
                 _ => continue,
             };
             events += came.order.len();
-            if came.fault.is_some() && size(&came.order) < size(&best.order) {
+            if came.fault.is_some() && size(&came) < size(&best) {
                 best = came;
                 // What lets one thread go in the midst of another has two switches and no fewer.
-                let (switches, length) = size(&best.order);
+                let (switches, length) = (switches(&best.order), best.order.len());
                 tried.retain(|other| other.switches() < switches || other.len() < length);
                 tried.extend(fewer(&best.order));
             }
@@ -44,7 +45,22 @@ impl<'p, R: Send + 'static> Player<'_, 'p, R> {
                 break;
             }
         }
+        while let (Some(came), true) = (self.at_bounds(&best, &mut trials), trials < TRIALS && events <= EVENTS) {
+            events += came.order.len();
+            best = came;
+        }
         self.error_of(best, Some(seed), trials)
+    }
+
+    /// A run that fails like this one, and has a switch less in the midst of a call, if there is one.
+    fn at_bounds(&mut self, best: &Ran, trials: &mut u64) -> Option<Ran> {
+        moved(best).into_iter().find_map(|order| {
+            *trials += 1;
+            match quiet(|| self.run(Chooser::given(order), true)) {
+                Ok(Ok(came)) if came.fault.is_some() && size(&came) < size(best) => Some(came),
+                _ => None,
+            }
+        })
     }
 
     /// The error of a run that never ends. Its schedule is the first events after which the run does not end, if each
@@ -72,7 +88,7 @@ impl<'p, R: Send + 'static> Player<'_, 'p, R> {
             if left == 0 {
                 break;
             }
-            if size(&order) < size(&best) {
+            if (switches(&order), order.len()) < (switches(&best), best.len()) {
                 left -= 1;
                 if never_ends(&order) {
                     best = order;
@@ -89,9 +105,16 @@ impl<'p, R: Send + 'static> Player<'_, 'p, R> {
     }
 }
 
-/// What is to be small: how often another thread goes than before, and how many events there are.
-fn size(order: &[usize]) -> (usize, usize) {
-    (order.windows(2).filter(|pair| pair[0] != pair[1]).count(), order.len())
+/// How often another thread goes than before.
+fn switches(order: &[usize]) -> usize {
+    order.windows(2).filter(|pair| pair[0] != pair[1]).count()
+}
+
+/// What is to be small: switches, calls, switches in the midst of a call, events.
+fn size(ran: &Ran) -> (usize, usize, usize, usize) {
+    let calls = ran.events.iter().filter(|event| event.is_begin()).count();
+    let halves = (1..ran.order.len()).filter(|at| ran.half_way[*at] && ran.order[*at] != ran.order[*at - 1]).count();
+    (switches(&ran.order), calls, halves, ran.order.len())
 }
 
 /// The parts of an order without a switch: a thread, and how many events of it.
@@ -124,11 +147,7 @@ impl Candidate {
     }
 
     fn order(&self) -> Vec<usize> {
-        let mut order = Vec::new();
-        for (thread, events) in self.blocks() {
-            order.resize(order.len() + events, thread);
-        }
-        order
+        order_of(&self.blocks())
     }
 
     fn switches(&self) -> usize {
@@ -152,8 +171,7 @@ fn alone(ran: &Ran) -> Vec<Candidate> {
     orders.collect()
 }
 
-/// Orders with fewer switches.
-fn fewer(order: &[usize]) -> Vec<Candidate> {
+fn blocks_of(order: &[usize]) -> Vec<(usize, usize)> {
     let mut blocks: Vec<(usize, usize)> = Vec::new();
     for thread in order {
         match blocks.last_mut() {
@@ -161,7 +179,47 @@ fn fewer(order: &[usize]) -> Vec<Candidate> {
             _ => blocks.push((*thread, 1)),
         }
     }
-    let (count, blocks) = (blocks.len(), Rc::new(blocks));
+    blocks
+}
+
+fn order_of(blocks: &[(usize, usize)]) -> Vec<usize> {
+    let mut order = Vec::new();
+    for (thread, events) in blocks {
+        order.resize(order.len() + events, *thread);
+    }
+    order
+}
+
+/// Orders in which one switch in the midst of a call comes before the call, or after it.
+fn moved(ran: &Ran) -> Vec<Vec<usize>> {
+    let blocks = blocks_of(&ran.order);
+    let (mut orders, mut start) = (Vec::new(), 0);
+    for (at, (thread, events)) in blocks.iter().enumerate() {
+        let end = start + events;
+        let later = (at + 1..blocks.len()).find(|later| blocks[*later].0 == *thread);
+        if let (Some(later), Some(true)) = (later, ran.half_way.get(end)) {
+            let mut shifts = |from: usize, to: usize, events: usize| {
+                let mut blocks = blocks.clone();
+                blocks[from].1 -= events;
+                blocks[to].1 += events;
+                orders.push(order_of(&blocks));
+            };
+            if let Some(before) = (start + 1..end).rev().find(|turn| !ran.half_way[*turn]) {
+                shifts(at, later, end - before);
+            }
+            let begin: usize = blocks[..later].iter().map(|(_, events)| events).sum();
+            let after = (1..blocks[later].1).find(|turn| !ran.half_way[begin + turn]);
+            shifts(later, at, after.unwrap_or(blocks[later].1));
+        }
+        start = end;
+    }
+    orders
+}
+
+/// Orders with fewer switches.
+fn fewer(order: &[usize]) -> Vec<Candidate> {
+    let blocks = Rc::new(blocks_of(order));
+    let count = blocks.len();
     let before = (0..count).map(|end| Candidate::Before(Rc::clone(&blocks), end));
     let without = (0..count).map(|at| Candidate::Without(Rc::clone(&blocks), at));
     let exchanged = (1..count).map(|at| Candidate::Exchanged(Rc::clone(&blocks), at));

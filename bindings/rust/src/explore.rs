@@ -10,10 +10,11 @@ use std::thread;
 use std::time::Duration;
 
 use crate::bar::Bar;
-use crate::baton::{Baton, Event, Stopped, ThreadTree};
+use crate::baton::{Baton, Event, Stopped, Taken, ThreadTree};
 use crate::draws::Chooser;
 use crate::limits::Limits;
 use crate::page::{page_with, sources};
+use crate::parts::{lines_of, parts_of, returned, Part};
 use crate::processor::OneProcessor;
 use crate::seen::{grouped, Explored, Look, Meetings};
 use crate::texts::{self, Schedule};
@@ -24,7 +25,7 @@ use crate::NODE_LIMIT;
 const EVENTS: u64 = 100_000;
 /// How long a function may make no call, unless the plan says so.
 const PATIENCE: Duration = Duration::from_secs(10);
-/// How many events of a run that never ends are shown: its last.
+/// How many parts of calls are shown of a run that never ends: its last.
 const SHOWN: usize = 40;
 
 /// How schedules are drawn.
@@ -255,11 +256,13 @@ pub struct FailedRun {
     pub fault: ScheduleFault,
     /// The seed from which it was drawn; none if the schedule was given.
     pub seed: Option<u64>,
-    /// The schedule, for [`replay`], for example `a*7 b*9 a`. Each word is a thread and how many events of it. If the run
-    /// never ends, these are the events after which it does not.
+    /// The schedule, for [`replay`], for example `a*7 b*9 a`. Each word is a thread and how many events of it. If the
+    /// run never ends, these are the events after which it does not.
     pub schedule: String,
     /// How many runs it took to cut it down.
     pub trials: u64,
+    /// What each thread did, in order, with the line of the source that made the call.
+    pub parts: Vec<Part>,
     /// A line for each event: the thread, the line of the source that made the call, and what the event did.
     pub trace: Vec<String>,
     /// The journal of the run, for [`check`](crate::check) and [`draw`](crate::draw).
@@ -278,9 +281,9 @@ impl ScheduleError {
 
     /// The error of no run in particular.
     pub(crate) fn of(fault: ScheduleFault) -> ScheduleError {
-        let (schedule, trace, journal, made_at) = (String::new(), Vec::new(), String::new(), Vec::new());
-        let (seed, script) = (None, None);
-        ScheduleError(Box::new(FailedRun { fault, seed, schedule, trials: 0, trace, journal, script, made_at }))
+        let (schedule, journal, seed, script) = (String::new(), String::new(), None, None);
+        let (parts, trace, made_at) = (Vec::new(), Vec::new(), Vec::new());
+        ScheduleError(Box::new(FailedRun { fault, seed, schedule, trials: 0, parts, trace, journal, script, made_at }))
     }
 
     /// The same with the words of another schedule.
@@ -321,12 +324,12 @@ impl fmt::Display for ScheduleError {
         }
         writeln!(f, "schedule, cut down in {} runs: {}", self.trials, self.schedule)?;
         let never_ends = matches!(self.fault, ScheduleFault::NeverEnds(_));
-        let hidden = if never_ends { self.trace.len().saturating_sub(SHOWN) } else { 0 };
+        let hidden = if never_ends { self.parts.len().saturating_sub(SHOWN) } else { 0 };
         if hidden > 0 {
-            writeln!(f, "    .. {} events before these", grouped(hidden as u64))?;
+            writeln!(f, "    .. {} before these", grouped(hidden as u64))?;
         }
-        for line in self.trace.iter().skip(hidden) {
-            writeln!(f, "    {line}")?;
+        for line in lines_of(&self.parts[hidden..]) {
+            writeln!(f, "{line}")?;
         }
         writeln!(f, "journal: {}", texts::check(&self.journal).unwrap_or_else(|error| error.to_string()))?;
         match &self.script {
@@ -357,8 +360,9 @@ pub(crate) struct Ran {
     pub(crate) fault: Option<ScheduleFault>,
     pub(crate) names: Vec<String>,
     pub(crate) order: Vec<usize>,
+    pub(crate) half_way: Vec<bool>,
     before: usize,
-    events: Vec<Event>,
+    pub(crate) events: Vec<Event>,
     journal: String,
     tree: String,
 }
@@ -429,8 +433,8 @@ pub(crate) type End = (Vec<(usize, String)>, String);
 pub(crate) fn end_of(ran: &Ran) -> End {
     let seats: BTreeMap<u64, usize> = ran.events.iter().map(|event| (event.call, event.thread)).collect();
     let replies = ran.journal.lines().filter_map(|line| {
-        let (number, reply) = line.strip_prefix("return ")?.split_once(' ')?;
-        Some((*seats.get(&number.parse().ok()?)?, reply.to_owned()))
+        let (number, reply) = returned(line)?;
+        Some((*seats.get(&number)?, reply.to_owned()))
     });
     let mut replies: Vec<_> = replies.collect();
     replies.sort_by_key(|(thread, _)| *thread);
@@ -574,7 +578,7 @@ impl<'m, 'p, R: Send + 'static> Player<'m, 'p, R> {
                 baton.stop();
             }
         }
-        let (order, events, mut tree) = baton.taken().map_err(none)?;
+        let Taken { order, half_way, events, mut tree } = baton.taken().map_err(none)?;
         // What was left half-way by a function that is gone.
         while tree.step_any().map_err(none)?.is_some() {}
         let journal = tree.journal().map_err(none)?;
@@ -592,18 +596,20 @@ impl<'m, 'p, R: Send + 'static> Player<'m, 'p, R> {
                 fault = self.judge.and_then(|judge| judge()).map(ScheduleFault::Check);
             }
         }
-        Ok(Ran { fault, names, order, before: prepared, events, journal, tree: text })
+        Ok(Ran { fault, names, order, half_way, before: prepared, events, journal, tree: text })
     }
 
     pub(crate) fn error_of(&mut self, ran: Ran, seed: Option<u64>, trials: u64) -> ScheduleError {
         let spelled = spelled(&ran.journal);
-        let trace = ran.events.iter().skip(ran.before).map(|event| event.line(&ran.names, &spelled)).collect();
+        let events = &ran.events[ran.before..];
+        let trace = events.iter().map(|event| event.line(&ran.names, &spelled)).collect();
+        let parts = parts_of(events, &ran.names, &ran.journal, &spelled);
         let schedule = words_of(&ran.order, &ran.names);
         let script = script_of(&ran, &spelled);
         let made_at = ran.events.iter().filter(|event| event.is_begin()).map(Event::at).collect();
         let fault = ran.fault.unwrap_or_else(|| ScheduleFault::NoPlan("the run is well".to_owned()));
         let journal = ran.journal;
-        ScheduleError(Box::new(FailedRun { fault, seed, schedule, trials, trace, journal, script, made_at }))
+        ScheduleError(Box::new(FailedRun { fault, seed, schedule, trials, parts, trace, journal, script, made_at }))
     }
 }
 

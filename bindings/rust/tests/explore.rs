@@ -447,9 +447,9 @@ fn two_locks_in_another_order() {
     // The turns that they hand on are events too, though no call has them.
     assert!((10_000..20_000).contains(&error.trace.len()), "{}", error.trace.len());
     let told = error.to_string();
-    let hidden = format!("{:05}", error.trace.len() - 40);
-    assert!(told.contains(&format!("    .. {},{} events before these\n", &hidden[..2], &hidden[2..])), "{told}");
-    assert!(told.contains("mkdir /one: begins") && told.contains("mkdir /two: begins"), "{told}");
+    let hidden = format!("{}", error.parts.len() - 40);
+    assert!(told.contains(&format!("    .. {},{} before these\n", &hidden[..1], &hidden[1..])), "{told}");
+    assert!(told.contains("mkdir /one: failed EEXIST") && told.contains("mkdir /two: failed EEXIST"), "{told}");
     assert_eq!((told.lines().count(), told.contains("script:")), (44, false), "{told}");
     assert_eq!(replay(&error.schedule, plan).unwrap_err().journal, error.journal);
     assert_eq!(explore(1..FOUND, plan).unwrap_err(), error);
@@ -490,7 +490,7 @@ fn what_a_process_tells() {
     println!("{}", outcomes(1..60, lost_update_unchecked, |tree, _| tree.text_of_tree().unwrap()).unwrap());
 }
 
-/// A seed is one run: byte for byte the same in each process, alone and under load. The hashes of std differ by process.
+/// A seed is one run: byte for byte the same in each process, alone and under load. Each process has other hashes.
 #[test]
 fn the_same_in_each_process() {
     let told = || {

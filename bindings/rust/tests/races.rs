@@ -55,6 +55,11 @@ fn is_found<'p, R: Send + 'static>(name: &str, made: impl Fn(&mut Plan<'p, R>) +
         assert_eq!(error.schedule.split(' ').count(), 3, "{error}");
         let source = format!("examples/races/{name}.rs:");
         assert!(error.trace.iter().all(|line| line.contains(&source)), "{error}");
+        // No switch is left in the midst of a call.
+        assert!(error.parts.iter().all(|part| part.begins && part.reply.is_some()), "{error}");
+        assert!(error.parts.iter().all(|part| part.line.contains(&source) && !part.source.is_empty()), "{error}");
+        let told = error.to_string();
+        assert!(error.parts.iter().all(|part| told.contains(&part.to_string())), "{told}");
         last = Some(error);
     }
     last.unwrap()

@@ -1,8 +1,8 @@
 //! Log rotation: a writer appends at the size that it asked for, and by then the log is another one.
 //!
-//! Between `stat` and `write` the log is renamed and a new one made. So the line comes far after the end of the new log,
-//! with zeros before it, or there is no log for a moment. The repair writes each line into a file of its own, and moves
-//! that into the folder of the log, whose files are read in order.
+//! Between `stat` and `write` the log is renamed and a new one made. So the line comes far after the end of the new
+//! log, with zeros before it, or there is no log for a moment. The repair writes each line into a file of its own, and
+//! moves that into the folder of the log, whose files are read in order.
 
 use atomfs::{Error, Plan, ThreadTree};
 
