@@ -1,5 +1,5 @@
-//! Cuts the schedule of a run that failed down. First come the fewest switches between threads that still fail, then the
-//! fewest calls, and then the fewest switches in the midst of a call.
+//! Cuts the schedule of a run that failed down. First come the fewest switches between threads that still fail, then
+//! the fewest calls, and then the fewest switches in the midst of a call.
 
 use std::rc::Rc;
 
