@@ -519,3 +519,24 @@ fn the_same_in_each_process() {
     assert!(first == other, "{first}\n{other}");
     assert!(first == told());
 }
+
+/// A lost update needs two events in a certain order. Priorities with few changes find it at least as often as they
+/// promise: 1 in `n k^(d-1)` runs, here of 2 threads, 28 events and depth 2.
+#[test]
+fn as_often_as_promised() {
+    for depth in [2, 3] {
+        let plan = move |plan: &mut Plan<'_, Result<u64, Error>>| {
+            lost_update_unchecked(plan);
+            plan.draws(Draws::Pct { depth });
+        };
+        let found = outcomes(0..1_000, plan, |tree, _| number(tree)).unwrap();
+        let bound = 1_000 / (2 * 28_u64.pow(depth - 1));
+        assert!(found.count(|n| *n == 1) > bound, "{found}");
+    }
+    // One priority for each thread, and none changes: one thread after the other.
+    let plan = |plan: &mut Plan<'_, Result<u64, Error>>| {
+        lost_update_unchecked(plan);
+        plan.draws(Draws::Pct { depth: 1 });
+    };
+    outcomes(0..300, plan, |tree, _| number(tree)).unwrap().always(|n| *n == 2).unwrap();
+}
