@@ -341,9 +341,10 @@ class ForPython(Installed):
             self.same("the program of the wheel", done([*words, "--version"], self.folder), (0, f"atomfs {VERSION}\n"))
         (example,) = blocks(PACKAGES["python"], "python")
         self.same("the example of its page", done([installed, "-c", example], self.folder), (0, "hello\nlawful\n"))
-        told = self.passes(installed)
-        # The repairs of races have made all their runs by then.
+        told = self.passes(installed, ATOMFS_RACES="200")
         self.passes(installed, ATOMFS_PURE="1", ATOMFS_RACES="200")
+        # The repairs of races make all their runs here, and few above.
+        self.passes(installed, "-p", "test_races.py")
         (said,) = re.findall(r"^With `Limits\.V2`, .*", PACKAGES["python"].read_text(), re.M)
         listed = [name for name in spans(said) if name.startswith("test_")]
         # What only wants a package of Debian is named with it.
@@ -490,9 +491,9 @@ class ForPython(Installed):
         self.ends([new, *words], pattern="Successfully installed atomfs", **more)
         return new
 
-    def passes(self, new: pathlib.Path, **more: typing.Any) -> str:
-        """What the tests of the package tell."""
-        words = "-W", "ignore", "-m", "unittest", "discover", "-v", "-s", BINDINGS / "python" / "tests"
+    def passes(self, new: pathlib.Path, *which: str, **more: typing.Any) -> str:
+        """What the tests of the package tell, all or those of some file."""
+        words = "-W", "ignore", "-m", "unittest", "discover", "-v", "-s", BINDINGS / "python" / "tests", *which
         return self.ends([new, *words], pattern=r"(?m)^OK", PYTHONDONTWRITEBYTECODE="1", **more)
 
 
