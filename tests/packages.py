@@ -493,7 +493,8 @@ class ForPython(Installed):
 
     def passes(self, new: pathlib.Path, *which: str, **more: typing.Any) -> str:
         """What the tests of the package tell, all or those of some file."""
-        words = "-W", "ignore", "-m", "unittest", "discover", "-v", "-s", BINDINGS / "python" / "tests", *which
+        tests = str(BINDINGS / "python" / "tests")
+        words = "-W", "ignore", "-m", "unittest", "discover", "-v", "-s", tests, *which
         return self.ends([new, *words], pattern=r"(?m)^OK", PYTHONDONTWRITEBYTECODE="1", **more)
 
 
