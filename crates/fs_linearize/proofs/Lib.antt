@@ -1,6 +1,5 @@
 mod FindingLemmas
 mod StoppingLemmas
-mod DepthFirstLemmas
 mod TellingLemmas
 mod PlayingLemmas
 mod PlaceLemmas

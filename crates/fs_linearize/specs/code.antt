@@ -2,5 +2,4 @@
 pub mod Knowing
 pub mod Replies
 pub mod Searched
-pub mod DepthFirst
 pub mod Tellings

@@ -5,7 +5,8 @@
 //! search met as many different configurations as the limit says.
 //!
 //! First one order is looked for, depth first. At the return of a call that has not committed, that call commits, or else one that meets
-//! it and returns soon. If none can, the search goes back. It makes few choices more than the history has entries.
+//! it and returns soon. If none can, the search goes back. It makes few choices more than the history has entries. It has one tree, which
+//! changes in place, and promises nothing: what it finds is played again from the start (`fs_linearize_configurations`, `walking`).
 //!
 //! If it finds no order, another search goes by layers of configurations (`fs_linearize_configurations`): all before an entry, then those
 //! after it. If the returning call has committed in no configuration of a layer, no timeline explains the history. Then the entries up to
@@ -25,6 +26,7 @@ mod playing;
 pub mod progress;
 pub mod replies;
 mod search;
+mod taking_back;
 mod telling;
 mod turns;
 

@@ -5,5 +5,6 @@ pub mod HeardLemmas
 pub mod CallLemmas
 pub mod NearLemmas
 pub mod WayLemmas
+mod WalkLemmas
 pub mod LayerLemmas
 pub mod SearchLemmas

@@ -16,7 +16,7 @@ use Rattle.fs_linearize_histories.specs.Configurations.{Configuration, at_start,
 use Rattle.fs_linearize_histories.specs.Early.{SettlesBy, Settles, SettlesIn}
 use Rattle.fs_linearize_configurations.specs.code.Calls.{IsUnderWay, AreEach, AreNear, CanCommitNow, CanCommitQuietly}
 use Rattle.fs_linearize_configurations.specs.code.Ways.{IsLedBy, IsLed, AllLed, Keeps, configurations}
-use Rattle.fs_linearize_configurations.specs.code.Searching.{SettlesTo, AddsIfNew, AllAt, Grows, Adds, IsTried, AddsCommit, AddsCommits, AreTried, Follows, Widens, WidensBefore, WidensFor, HasPassed, waits, Becomes, PassesTo, ReachesTo, Passes, PassesAll, IsFirst}
+use Rattle.fs_linearize_configurations.specs.code.Searching.{SettlesTo, AddsIfNew, AllAt, Grows, Adds, IsTried, AddsCommit, AddsCommits, AreTried, Follows, Widens, WidensBefore, WidensFor, HasPassed, waits, Becomes, PassesTo, Passes, PassesAll, IsFirst}
 use Rattle.fs_linearize_configurations.specs.declared.reached.Reached.{Reached}
 use Rattle.fs_linearize_configurations.specs.declared.steps.Link.{Link}
 use Rattle.fs_linearize_configurations.specs.declared.under_way.UnderWay.{UnderWay}
@@ -133,15 +133,6 @@ adds_commit h r s u link old mid new before behind pushed number place first las
           (subst (λ n. Grows h n s mid new before behind) at a.grows);
       tried = λ again. subst (SettlesIn h (configurations behind)) can.1 a.settles;
     }
-
--- what is reached by a commit, with the quiet ones behind it
-pub reaches_to : (h : List Heard) (r s t : Reached) (u : UnderWay) (link : Link) (old mid new : List Link) → mid ≡ old ++ link ∷ [] → link.number ≡ u.number → link.at ≡ r.configuration.at → link.before ≡ r.last → s.last ≡ length mid
-    → CanCommitNow r.configuration u × (s.configuration ≡ committed r.configuration u.number u.call.now) → IsUnderWay h r.configuration.at u → SettlesTo h mid new s t → ReachesTo h old new r t
-reaches_to h r s t u link old mid new pushed number place first last can way k = record {
-  place = same_place h mid new s t k ∙ ap (λ z. z.at) can.1;
-  keeps = keeps_on old mid new (keeps_push old mid link pushed) k.keeps;
-  led = λ start l. k.led start (led_made start h old mid r s link u.number u.call.now pushed number place first last can.1 (now_can h r.configuration u way can.0) l);
-}
 
 -- what comes of the commit is there already
 pub adds_commit_seen : (h : List Heard) (r : Reached) (u : UnderWay) (x : Configuration) (links : List Link) (layer : List Reached) → CanCommitNow r.configuration u × (x ≡ committed r.configuration u.number u.call.now) → Contains (configurations layer) x

@@ -25,7 +25,7 @@ use Rattle.fs_linearize_configurations.specs.declared.steps.Step.TheVariants.{Pa
 
 -- ---- one step more
 
-goes_commit : (h : List Heard) (ss : List Step) (es : List Entry) (c : ℕ) → GoesBy h ss es → GoesBy h (ss ++ Commits c ∷ []) (es ++ Commit c ∷ [])
+pub goes_commit : (h : List Heard) (ss : List Step) (es : List Entry) (c : ℕ) → GoesBy h ss es → GoesBy h (ss ++ Commits c ∷ []) (es ++ Commit c ∷ [])
 goes_commit h [] es c g = subst (λ (xs : List Entry). GoesBy h (Commits c ∷ []) (xs ++ Commit c ∷ [])) (sym g) (refl, refl)
 goes_commit h (Commits d ∷ ss) [] c g = absurd g
 goes_commit h (Commits d ∷ ss) (e ∷ es) c g = (g.0, goes_commit h ss es c g.1)
@@ -45,7 +45,7 @@ passed_one y (Begin c seat call) h es x k at = at
 passed_one y (Commit c) h es x k at = absurd k
 passed_one y (Return c r) h es x k at = at
 
-goes_pass : (h : List Heard) (ss : List Step) (es : List Entry) (x : Heard) (e : Entry) → GoesBy h ss es → slice_get h (length (history es)) ≡ Some x → IsHeardAs e x → GoesBy h (ss ++ Passes ∷ []) (es ++ e ∷ [])
+pub goes_pass : (h : List Heard) (ss : List Step) (es : List Entry) (x : Heard) (e : Entry) → GoesBy h ss es → slice_get h (length (history es)) ≡ Some x → IsHeardAs e x → GoesBy h (ss ++ Passes ∷ []) (es ++ e ∷ [])
 goes_pass h [] es x e g at k = subst (λ (xs : List Entry). slice_get h (length (history xs)) ≡ Some x → GoesBy h (Passes ∷ []) (xs ++ e ∷ [])) (sym g) (λ first. goes_first h x e first k) at
 goes_pass h (Commits d ∷ ss) [] x e g at k = absurd g
 goes_pass h (Commits d ∷ ss) (f ∷ es) x e g at k = (g.0, goes_pass h ss es x e g.1 (subst (λ (y : Entry). slice_get h (length (history (y ∷ es))) ≡ Some x) g.0 at) k)
@@ -179,7 +179,7 @@ led_begin start h links x last c seat call history is l =
       goes = subst (λ (ss : List Step). GoesBy h ss (l.es ++ Begin c seat call ∷ [])) (sym (last_first Passes l.steps)) on;
     }
 
-last_heard : (es : List Entry) (g : List Heard) (e : Entry) (x : Heard) → AreHeardIn (es ++ e ∷ []) g → slice_get g (length es) ≡ Some x → IsHeardAs e x
+pub last_heard : (es : List Entry) (g : List Heard) (e : Entry) (x : Heard) → AreHeardIn (es ++ e ∷ []) g → slice_get g (length es) ≡ Some x → IsHeardAs e x
 last_heard [] [] e x k at = absurd k
 last_heard [] (y ∷ g) e x k at = subst (IsHeardAs e) (some_heard y x at) k.0
 last_heard (f ∷ es) [] e x k at = absurd k

@@ -6,3 +6,4 @@ pub mod Ways
 pub mod Calls
 pub mod Stopping
 pub mod Searching
+pub mod Walking

@@ -10,7 +10,7 @@ use std::collections::BTreeMap;
 use std::marker::Model;
 
 /// One number more mixed into a key.
-pub(crate) fn mixed(key: u64, number: u64) -> u64
+pub fn mixed(key: u64, number: u64) -> u64
     ensures { result ≡ mixed key number }
 {
     let product = (key ^ number).wrapping_mul(0x9E37_79B9_7F4A_7C15);

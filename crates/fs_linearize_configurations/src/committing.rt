@@ -1,11 +1,10 @@
 //! Calls that commit.
 
-ghost use Rattle.std.specs.Prelude.{◌≡◌, ◌↔◌, ℕ, List, true, option_copied, IfOk, IfSome, OnOk};
+ghost use Rattle.std.specs.Prelude.{◌≡◌, ◌↔◌, List, true, option_copied, IfOk};
 ghost use Rattle.fs_linearize_histories.specs.Early.{leaves_trees, tells_error, is_quiet};
 ghost use Rattle.fs_linearize_histories.specs.declared.heard.Heard.{Heard as Value};
 ghost use Rattle.fs_linearize_configurations.specs.code.Calls.{FitsKnown, CommitsNow, CanCommitQuietly, IsUnderWay, AreEach};
-ghost use Rattle.fs_linearize_configurations.specs.code.Searching.{SettlesTo, ReachesTo};
-ghost use Rattle.fs_linearize_configurations.specs.code.Ways.{Keeps};
+ghost use Rattle.fs_linearize_configurations.specs.code.Searching.{SettlesTo};
 
 use crate::configuration::Configuration;
 use crate::reached::Reached;
@@ -17,7 +16,7 @@ use fs_linearize_histories::Pattern;
 use std::alloc::{AllocError, Global};
 
 /// Whether a reply matches what is known of it, if anything.
-fn fits(known: Option<&Pattern>, reply: &Reply) -> bool
+pub fn fits(known: Option<&Pattern>, reply: &Reply) -> bool
     ensures { result ≡ true ↔ FitsKnown (option_copied known.entry) reply.now }
 {
     match known {
@@ -74,7 +73,7 @@ fn tells_error(pattern: &Pattern) -> bool
 }
 
 /// Whether a call of whose reply this is known changes no tree on which it gets such a reply.
-fn is_quiet(call: &Call, pattern: &Pattern) -> bool
+pub fn is_quiet(call: &Call, pattern: &Pattern) -> bool
     ensures { result ≡ is_quiet call.now pattern.now }
 {
     leaves_trees(call) || tells_error(pattern)
@@ -153,35 +152,6 @@ pub(crate) fn settle(
         now = settle_met(alloc, links, now, call, met)?;
     }
     Ok(now)
-}
-
-/// What is reached by the commit of a pending call, and of those that commit early after it, if it can commit.
-pub fn reach(
-    alloc: Global,
-    calls: &[UnderWay],
-    links: &mut Vec<Link>,
-    reached: &Reached,
-    call: &UnderWay,
-) -> Result<Option<Reached>, AllocError>
-    ensures keeps { OnOk result ((h : List Value) → AreEach h reached.now.configuration.at calls.now → IsUnderWay h reached.now.configuration.at call.now → Keeps links.old.items links.new.items) }
-    ensures reached { IfOk result (λ next. IfSome next (λ to. (h : List Value) → AreEach h reached.now.configuration.at calls.now → IsUnderWay h reached.now.configuration.at call.now
-        → ReachesTo h links.old.items links.new.items reached.now to)) }
-{
-    match commit(alloc, &reached.configuration, call)? {
-        Some(configuration) => {
-            links.push(Link {
-                number: call.number,
-                at: reached.configuration.passed_count(),
-                before: reached.last,
-            })?;
-            let next = Reached {
-                configuration,
-                last: links.len(),
-            };
-            Ok(Some(settle(alloc, calls, links, next, call.call)?))
-        }
-        None => Ok(None),
-    }
 }
 
 /// Commits early the call that began last, if it can.

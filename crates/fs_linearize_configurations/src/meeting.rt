@@ -33,7 +33,7 @@ fn path_meets(siblings: bool, path: &Path, call: &Call) -> bool
 }
 
 /// Whether two calls meet: a path of one meets a path of the other.
-pub(crate) fn calls_meet(siblings: bool, call: &Call, with: &Call) -> bool
+pub fn calls_meet(siblings: bool, call: &Call, with: &Call) -> bool
     ensures { result ≡ calls_meet siblings call.now with.now }
 {
     match call.target() {

@@ -5,6 +5,7 @@ use Rattle.fs_timeline.specs.declared.entry.Entry.{Entry}
 use Rattle.fs_linearize_histories.specs.declared.heard.Heard.{Heard}
 use Rattle.fs_linearize_histories.specs.Histories.{HasNoOrder, HasNoFront, Explains}
 use Rattle.fs_linearize_configurations.specs.code.Ways.{GoesBy}
+use Rattle.fs_linearize_configurations.specs.declared.steps.Step.{Step}
 use Rattle.fs_linearize.specs.Limited.{WasLimited}
 use Rattle.fs_linearize.specs.Results.{IsReturnAt, IsAnswerFor, IsKnownAbove, TellsLinearizable, fault_in}
 use Rattle.fs_linearize.specs.declared.search.Searched.{Searched}
@@ -30,3 +31,7 @@ pub record IsRefused (start : Start) (h : List Heard) (limit : ℕ) (f : Found) 
   pub linearizable : TellsLinearizable start h f
   pub fault : fault_in f ≡ None
   pub known : IsKnownAbove h limit f
+
+-- steps of a timeline that explains a history
+abbrev pub IsOrder : Start → List Heard → List Step → Type 0
+IsOrder start h steps = (es : List Entry) × Explains start h es × GoesBy h steps es

@@ -110,12 +110,6 @@ pub record PassesTo (h : List Heard) (e : Heard) (r : Reached) (old new : List L
   pub led : (start : Start) → IsLed start h old r → IsLed start h new s
   pub becomes : Becomes h e r.configuration s.configuration
 
--- what is reached by a commit
-pub record ReachesTo (h : List Heard) (old new : List Link) (r s : Reached) : Type 0 where
-  pub place : s.configuration.at ≡ r.configuration.at
-  pub keeps : Keeps old new
-  pub led : (start : Start) → IsLed start h old r → IsLed start h new s
-
 -- a configuration has passed an entry, if the entry can pass there
 abbrev pub HasPassed : List Heard → Heard → Configuration → List Reached → Type 0
 HasPassed h (Begin c seat call) x layer = SettlesIn h (configurations layer) (passed x)
