@@ -1,20 +1,18 @@
 -- Events of drawn threads, as words.
 use Rattle.std.proofs.Common.{◌≡◌, ℕ, List, [], ◌∷◌, ◌++◌, length, map, replicate, refl, Ok, ap, ap₂, ◌∙◌, subst, inl, inr}
 use Rattle.std.specs.List.{range_with_len}
-use Rattle.fs_calls.specs.Starts.{root_start}
 use Rattle.fs_calls.specs.declared.call.Call.{Call}
 use Rattle.fs_timeline.specs.declared.entry.Entry.{Entry}
 use Rattle.fs_laws.proofs.journal.ViewOfTimeline.{begin_start, step_start}
 use Rattle.fs_script.specs.declared.script.Script.{Script}
 use Rattle.fs_script.specs.declared.script.Word.{Word}
 use Rattle.fs_script.specs.declared.script.Word.TheVariants as words
-use Rattle.fs_sched.specs.Runs.{Stage, start, Event, Goes, Starts, Spent, Events, ToEnd, Over, More, Words, Runs, Stops, StopsInWords}
-use Rattle.fs_sched.specs.Laws.{IsUnderWay}
+use Rattle.fs_sched.specs.Runs.{Stage, Event, Goes, Starts, Spent, Events, ToEnd, Over, More, Words, RunsFrom, Stops, StopsFrom, StopsInWords}
 use Rattle.fs_sched.specs.Schedules.{one_event, drawn_seats, prepared}
+use Rattle.fs_verdict.specs.declared.fault.RunFault.{RunFault}
 use Rattle.fs_verdict.specs.declared.fault.RunFault.TheVariants.{Full, UnderWay}
 use Rattle.fs_sched.specs.declared.schedule.Schedule.TheVariants.{Seeded}
 use Rattle.fs_sched.specs.declared.schedule.TheConstants.{DRAW_LIMIT}
-use Rattle.fs_sched.proofs.Ends.{at_word}
 use Rattle.fs_sched.proofs.Preparing.{OnlyEvents, only_drawn}
 
 pub drawn_words : (lists : List (List Call)) (seats : List ℕ) (old new : Stage) → Events lists old seats new → Words lists old (map one_event seats) [] new
@@ -42,8 +40,9 @@ only_words : (n : ℕ) (script : Script) → OnlyEvents (words_drawn n script)
 only_words n script = only_drawn script.words (drawn_seats n (length script.lists) DRAW_LIMIT)
 
 -- a drawn run comes to no checkpoint
-pub never_under_way : (n : ℕ) (script : Script) (c : ℕ) → IsUnderWay (Seeded n) script c → ⊥
-never_under_way n script c under = no_checkpoint script.lists (words_drawn n script) (start script.limits (length script.lists)) c (only_words n script) (at_word (Seeded n) script c under)
+pub never_from : (n : ℕ) (script : Script) (first : Stage) (c : ℕ) → StopsFrom (Seeded n) script first (UnderWay c) → ⊥
+never_from n script first c (inl stops) = no_checkpoint script.lists (words_drawn n script) first c (only_words n script) stops
+never_from n script first c (inr (middle, told, done, goes, full, rest)) = let z : ◌≡◌ {A = RunFault} (UnderWay c) Full = full in cc
 
 event_start : (lists : List (List Call)) (old new : Stage) (seat : ℕ) → Event lists old seat new → new.state.start ≡ old.state.start
 event_start lists old new seat (Goes c answer on step kept) = step_start old.state seat answer new.state step
@@ -68,8 +67,8 @@ words_start lists (words.Checkpoint ∷ ws) told old new only all = absurd only
 words_start lists (words.Finish ∷ ws) told old new only all = absurd only
 words_start lists (words.Drawn ∷ ws) told old new only all = absurd only
 
--- a drawn run is one piece, from the root alone
-pub drawn_once : (n : ℕ) (script : Script) (told : List Entry) (last : Stage) → Runs (Seeded n) script told last → Runs (Seeded n) script [] last × (last.state.start ≡ root_start script.limits)
-drawn_once n script told last runs =
-    let once : (told ≡ []) × (runs.0.state.start ≡ root_start script.limits) = words_start script.lists (words_drawn n script) told (start script.limits (length script.lists)) runs.0 (only_words n script) runs.1 in
-    (subst (λ (es : List Entry). Runs (Seeded n) script es last) once.0 runs, end_start script.lists runs.0 last runs.2 ∙ once.1)
+-- a drawn run is one piece
+pub drawn_from : (n : ℕ) (script : Script) (first : Stage) (told : List Entry) (last : Stage) → RunsFrom (Seeded n) script first told last → RunsFrom (Seeded n) script first [] last × (last.state.start ≡ first.state.start)
+drawn_from n script first told last runs =
+    let once : (told ≡ []) × (runs.0.state.start ≡ first.state.start) = words_start script.lists (words_drawn n script) told first runs.0 (only_words n script) runs.1 in
+    (subst (λ (es : List Entry). RunsFrom (Seeded n) script first es last) once.0 runs, end_start script.lists runs.0 last runs.2 ∙ once.1)

@@ -27,4 +27,6 @@ pub mod ShortRuns
 pub mod Noting
 pub mod Telling
 pub mod FromRoot
+pub mod SameStarts
+pub mod Origins
 pub mod LinearizableRuns

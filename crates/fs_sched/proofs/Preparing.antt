@@ -1,5 +1,5 @@
 -- Words one after the other, and those that prepare a run.
-use Rattle.std.proofs.Common.{◌≡◌, ℕ, ◌+◌, ◌<◌, ◌-◌, Bool, true, false, cond, List, [], ◌∷◌, ◌++◌, append_assoc, append-nil, length, map, take, drop, get_or, refl, sym, ap, ◌∙◌, subst, inl, inr}
+use Rattle.std.proofs.Common.{◌≡◌, ℕ, ◌+◌, ◌<◌, Bool, true, false, cond, List, [], ◌∷◌, ◌++◌, append_assoc, append-nil, length, map, take, drop, get_or, refl, sym, ap, ◌∙◌, subst, inl, inr}
 use Rattle.std.specs.List.{filter}
 use Rattle.std.proofs.lemmas.List.{take_more, take-append-drop, map-append}
 use Rattle.std.proofs.lemmas.List.Elements.{filter-append}
@@ -8,10 +8,9 @@ use Rattle.fs_calls.specs.declared.call.Call.{Call}
 use Rattle.fs_timeline.specs.declared.entry.Entry.{Entry}
 use Rattle.fs_script.specs.declared.script.Word.{Word}
 use Rattle.fs_script.specs.declared.script.Word.TheVariants as words
-use Rattle.fs_sched_witness.specs.Moments.{Hears}
 use Rattle.fs_sched_witness.specs.declared.moments.Moment.{Moment}
 use Rattle.fs_sched.specs.Gives.{single_words, given_words}
-use Rattle.fs_sched.specs.Moments.{AreMoments, AreOfWords, word_of, words_of}
+use Rattle.fs_sched.specs.Moments.{word_of, words_of}
 use Rattle.fs_sched.specs.Runs.{Stage, Does, Words, StopsAt, StopsInWords}
 use Rattle.fs_sched.specs.Schedules.{is_events, ends_drawn, prepared, one_event}
 use Rattle.fs_sched.specs.code.Counts.{AreCapped}

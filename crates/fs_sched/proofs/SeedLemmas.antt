@@ -6,8 +6,13 @@ use Rattle.std.specs.List.{flat_map, range_with_len}
 use Rattle.std.proofs.lemmas.Grind.{flat_map-append}
 use Rattle.fs_script.specs.Script.{script_of}
 use Rattle.fs_script.specs.declared.script.Script.{Script}
-use Rattle.fs_sched.specs.Devices.{IsSameText}
-use Rattle.fs_sched.specs.Seeds.{lawful_line, IsLawfulFrom, AreRunsOf}
+use Rattle.fs_sched.specs.Devices.{IsFaultOf, IsSameText}
+use Rattle.fs_sched.specs.Origins.{LacksRun}
+use Rattle.fs_sched.specs.Seeds.{lawful_line, IsLawfulOn, AreRunsOf}
+use Rattle.fs_sched.specs.declared.origin.Origin.{Origin}
+use Rattle.fs_sched.specs.declared.origin.Origin.TheVariants.{Root}
+use Rattle.fs_verdict.specs.declared.fault.RunFault.{RunFault}
+use Rattle.fs_sched.proofs.Origins.{only_memory}
 use Rattle.fs_sched.proofs.RunLemmas.{script_same}
 
 range_last : (a n : ℕ) → range_with_len a (suc n) ≡ range_with_len a n ++ (a + n) ∷ []
@@ -22,8 +27,12 @@ lines_more seed run lines more e m =
     m ∙ ap (λ l. l ++ lawful_line (seed + run)) e ∙ sym (ap (flat_map lawful_line) (ap (range_with_len seed) on ∙ range_last seed run) ∙ flat_map-append lawful_line (range_with_len seed run) ((seed + run) ∷ []) ∙ ap (λ l. flat_map lawful_line (range_with_len seed run) ++ l) one)
 
 -- the runs with the next one
-pub each_more : (script : Script) (seed run : ℕ) → ((n : ℕ) → seed ≤ n → n < seed + run → IsLawfulFrom script n) → IsLawfulFrom script (seed + run) → (n : ℕ) → seed ≤ n → n < seed + (run + 1) → IsLawfulFrom script n
-each_more script seed run each next n from below = ⊎_elim (λ e. subst (IsLawfulFrom script) (sym e) next) (λ l. each n from l) (eq-or-lt_of_le (omega (arith, below)))
+pub each_more : (from : Origin) (script : Script) (seed run : ℕ) → ((n : ℕ) → seed ≤ n → n < seed + run → IsLawfulOn from script n) → IsLawfulOn from script (seed + run) → (n : ℕ) → seed ≤ n → n < seed + (run + 1) → IsLawfulOn from script n
+each_more from script seed run each next n least below = ⊎_elim (λ e. subst (IsLawfulOn from script) (sym e) next) (λ l. each n least l) (eq-or-lt_of_le (omega (arith, below)))
+
+-- from the root alone only memory can be wanting
+pub root_fault : (input : List ℕ) (script : Script) (seed runs : ℕ) (fault : RunFault) → LacksRun Root script seed runs fault → IsFaultOf (script_of input) fault
+root_fault input script seed runs fault lacks = subst (IsFaultOf (script_of input)) (sym (only_memory script seed runs fault lacks)) tt
 
 pub known_runs : (r : Option (List ℕ)) (text items out : List ℕ) (seed runs : ℕ) → text ≡ items → IfSome r (IsSameText items) → AreRunsOf seed runs text out → IfSome r (λ input. AreRunsOf seed runs input out)
 known_runs None text items out seed runs e s h = tt

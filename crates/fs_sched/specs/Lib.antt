@@ -6,6 +6,7 @@ pub mod RunTexts
 pub mod Runs
 pub mod Gives
 pub mod Moments
+pub mod Origins
 pub mod Seeds
 pub mod EachRun
 pub mod Watching

@@ -5,15 +5,17 @@
 //! writer failed during this call. Checks and faults are those of `fs_verdict`.
 //!
 //! All of them play a script in one place, `Play`, which reports each moment to a `Witness` when it comes. `watch` plays a script for its
-//! witness alone, and `run_on` plays it on a core that begins at a tree. `Silent` is a witness that gets no reports, and costs nothing.
+//! witness alone, and `run_on` plays it on a core that begins at a tree. `watch_at` and `seeds_of` do so from an `Origin`, the root or a tree.
+//! `Silent` is a witness that gets no reports, and costs nothing.
 //!
 //! Enter at these two, with a `Device` around a reader and a writer, or with a text in memory at `run_bytes`. The definitions are in
-//! `specs/`: `Schedules` and `Runs` (events for each schedule), `RunTexts`, `EachRun` (what is said of every run), `Seeds`. The module
-//! `laws` has what is proved of them, `one_text` among it.
+//! `specs/`: `Schedules` and `Runs` (events for each schedule), `Origins` (where runs begin), `RunTexts`, `EachRun` (what is said of every
+//! run), `Seeds`. The module `laws` has what is proved of them, `one_text` among it.
 #![tactic(auto)]
 
 mod input;
 pub mod laws;
+mod origin;
 mod pieces;
 mod play;
 mod run_texts;
@@ -29,10 +31,11 @@ pub use fs_verdict::{
     device, due_reply, is_lawful, journal_in, kind_text, push_verdict, run_fault, write_text,
 };
 pub use input::script_in;
+pub use origin::Origin;
 pub use play::{checkpoint_fault, refusal_fault};
 pub use run_texts::{Counts, EntryKind, counts_of, number_of, push_counts};
 pub use running::{RunEnd, run_bytes, run_end, run_on, run_script};
 pub use schedule::{DRAW_LIMIT, Draws, Schedule};
 pub use seats::Divisor;
-pub use seeding::{RUN_LIMIT, SEED_LIMIT, run_seeds};
-pub use watching::{Ran, watch};
+pub use seeding::{RUN_LIMIT, SEED_LIMIT, run_seeds, seeds_of};
+pub use watching::{Ran, watch, watch_at};

@@ -95,15 +95,16 @@ pub(crate) struct CountedText {
 /// For how many bytes an entry the text of a run has room before its first line, where there is memory for it.
 const LINE_ROOM: usize = 32;
 
-/// A journal from a start tree: what comes before its entries, and a line for each. The entries are counted on the way.
+/// A journal from a start tree: what comes before its entries, and a line for each. The entries are counted on the way, and each
+/// is let go once its line stands.
 fn journal_text(
     alloc: Global,
     start: &SeqTree,
-    entries: &[Entry],
+    entries: Vec<Entry>,
 ) -> Result<CountedText, AllocError>
-    ensures text { IfOk result (λ made. made.text.items ≡ journal_text start.now entries.now) }
-    ensures counts { IfOk result (λ made. AreCounts made.counts entries.now) }
-    ensures fit { OnOk result (AllFit largest entries.now) }
+    ensures text { IfOk result (λ made. made.text.items ≡ journal_text start.now entries.items) }
+    ensures counts { IfOk result (λ made. AreCounts made.counts entries.items) }
+    ensures fit { OnOk result (AllFit largest entries.items) }
     ensures told { OnOk result (is_told start.now.limits (length start.now.tree) ≡ true → AllByRecursion (FitsNode largest) start.now.tree) }
 {
     let mut text = Vec::new(alloc);
@@ -113,7 +114,7 @@ fn journal_text(
     let mut committed = 0;
     let mut returned = 0;
     for entry in entries {
-        write_entry(alloc, entry, &mut text)?;
+        write_entry(alloc, &entry, &mut text)?;
         match entry {
             Entry::Begin(_, _, _) => begun += 1,
             Entry::Commit(_) => committed += 1,
@@ -160,17 +161,17 @@ fn end_line(alloc: Global, counts: Counts) -> Result<Vec<u8>, AllocError>
 }
 
 /// The text of a run whose last piece began at this tree and ended with these entries and nodes: its journal, the tree
-/// that the nodes spell, and a last line with the numbers of entries of each kind; and these numbers. The only error is out
-/// of memory.
+/// that the nodes spell, and a last line with the numbers of entries of each kind; and these numbers. Each entry is let go once
+/// its line stands. The only error is out of memory.
 pub(crate) fn counted_text(
     alloc: Global,
     start: &SeqTree,
-    entries: &[Entry],
+    entries: Vec<Entry>,
     store: &Store,
 ) -> Result<CountedText, AllocError>
-    ensures text { IfOk result (λ made. IsRunText start.now entries.now (graph_of store.now) made.text.items) }
-    ensures counts { IfOk result (λ made. AreCounts made.counts entries.now) }
-    ensures fit { OnOk result (AllFit largest entries.now) }
+    ensures text { IfOk result (λ made. IsRunText start.now entries.items (graph_of store.now) made.text.items) }
+    ensures counts { IfOk result (λ made. AreCounts made.counts entries.items) }
+    ensures fit { OnOk result (AllFit largest entries.items) }
     ensures told { OnOk result (is_told start.now.limits (length start.now.tree) ≡ true → AllByRecursion (FitsNode largest) start.now.tree) }
 {
     let mut made = journal_text(alloc, start, entries)?;

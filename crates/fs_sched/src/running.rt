@@ -21,6 +21,7 @@ ghost use Rattle.fs_sched.specs.code.Stages.{stage_of, IsWhy};
 
 use crate::input::script_in;
 use crate::pieces::Pieces;
+use crate::play::Play;
 use crate::run_texts::{Counts, counted_text};
 use crate::schedule::Schedule;
 use fs_calls::Call;
@@ -129,11 +130,13 @@ pub fn run_on<Listener: Witness>(
     };
     let calls = count_calls(script.lists.as_slice());
     drop(script);
-    let last = &run.play.core;
-    match counted_text(alloc, last.start(), last.timeline(), last.store()) {
+    let Pieces { play, told } = run;
+    let Play { core, .. } = play;
+    let (start, timeline, store) = core.into_parts();
+    match counted_text(alloc, &start, timeline.into_entries(), &store) {
         Ok(made) => Ok(Made {
             text: made.text,
-            end: end_of(calls, run.told.plus(made.counts)),
+            end: end_of(calls, told.plus(made.counts)),
         }),
         Err(_) => Err(RunFault::OutOfMemory),
     }

@@ -1,3 +1,2 @@
 pub mod NodeLines
-pub mod SameStarts
 pub mod Starting

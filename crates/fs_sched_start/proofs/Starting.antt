@@ -1,16 +1,13 @@
 -- Runs from a tree: what is said of one is said of each.
-use Rattle.std.proofs.Common.{◌≡◌, ◌≢◌, ◌<◌, ◌^◌, ℕ, true, List, [], length, Result, Ok, refl, sym, ap, ◌∙◌, subst}
+use Rattle.std.proofs.Common.{◌≡◌, ◌≢◌, ◌<◌, ◌^◌, ℕ, true, List, length, Result, Ok, sym, ap, ◌∙◌, subst}
 use Rattle.std.specs.List.{list_any}
-use Rattle.fs_names.specs.Limits.{node_limit}
 use Rattle.fs_calls.specs.Starts.{Start}
-use Rattle.fs_calls.specs.declared.call.Call.{Call}
 use Rattle.fs_nodes.specs.Stores.{graph_of}
 use Rattle.fs_timeline.specs.declared.entry.Entry.{Entry}
 use Rattle.fs_core.specs.CoreValues.{CoreValue, state_of}
-use Rattle.fs_machine.specs.States.{State, Run, Starting, IsStart, fresh}
+use Rattle.fs_machine.specs.States.{State, Run}
 use Rattle.fs_laws.proofs.journal.ViewOfTimeline.{linearizes}
 use Rattle.fs_linearizable.proofs.LawfulLemmas.{lawful_is_linearizable}
-use Rattle.fs_laws.proofs.Again.{begins_again}
 use Rattle.fs_words.specs.declared.fault.ScriptFault.{ScriptFault}
 use Rattle.fs_script.specs.Journals.{start_of}
 use Rattle.fs_script.specs.Script.{script_of}
@@ -25,29 +22,21 @@ use Rattle.fs_sched.specs.code.Stages.{IsWhy}
 use Rattle.fs_sched.specs.declared.running.RunEnd.{RunEnd}
 use Rattle.fs_sched.specs.declared.schedule.Schedule.{Schedule}
 use Rattle.fs_sched.specs.declared.schedule.Schedule.TheVariants.{Given}
-use Rattle.fs_sched.proofs.OneText.{Same, one_from, of_one, one_again}
-use Rattle.fs_sched.proofs.Whole.{ListFacts, kept_fresh, last_keeps, whole_end, always_goes_on, finish_goes_on}
+use Rattle.fs_sched.proofs.OneText.{one_from, of_one, one_again}
+use Rattle.fs_sched.proofs.Whole.{last_keeps, whole_end, always_goes_on, finish_goes_on}
 use Rattle.fs_verdict.specs.declared.fault.RunFault.{RunFault}
 use Rattle.fs_verdict.specs.declared.fault.RunFault.TheVariants as run
 use Rattle.fs_sched_start.specs.Laws.{OneRunFrom}
-use Rattle.fs_sched_start.specs.Starts.{IsBefore, RunsAt, AreGiven, IsRunAt, AreOfEachRunAt, AreOfTheRunAt, IsLinearizableRunAt, EachIsReadAgainAt, IsFaultAt}
-use Rattle.fs_sched_start.specs.code.Mades.{IsCoreAt, IsNoCore}
+use Rattle.fs_sched.specs.Origins.{IsBefore, RunsAt, LacksRun}
+use Rattle.fs_sched_start.specs.Starts.{AreGiven, IsRunAt, AreOfEachRunAt, AreOfTheRunAt, IsLinearizableRunAt, EachIsReadAgainAt, IsFaultAt, IsFaultOfRunsAt}
+use Rattle.fs_sched_start.specs.code.Mades.{IsCoreAt, IsFaultOfGiven, IsNoCore}
 use Rattle.fs_sched_start.specs.declared.fault.StartFault.{StartFault}
 use Rattle.fs_sched_start.specs.declared.fault.StartFault.TheVariants.{Run as Runs, Tree}
-use Rattle.fs_sched_start.proofs.SameStarts.{starts_alike}
+use Rattle.fs_sched.proofs.Origins.{kept_first, same_before}
+use Rattle.fs_sched.specs.declared.origin.Origin.TheVariants.{Tree as At}
 use Rattle.fs_script.proofs.StartNames.{short_start}
 
 -- ---- two runs
-
-same_before : (start : Start) (threads : ℕ) (a b : Stage) → IsBefore start threads a → IsBefore start threads b → Same a b
-same_before start threads a b (g, is_g, e) (h, is_h, f) =
-    subst (λ (x : Stage). Same x b) (sym e)
-    (subst (λ (x : Stage). Same (before_all (fresh (node_limit start.limits) start g) threads) x) (sym f) (record {
-      run = Starting (node_limit start.limits) start g is_g;
-      other = Starting (node_limit start.limits) start h is_h;
-      alike = starts_alike (node_limit start.limits) start g h is_g is_h;
-      begun = refl;
-    }))
 
 pub one_run_from : OneRunFrom
 one_run_from schedule script start told other a b (first, is, runs) (second, is_second, runs_second) = one_from schedule script first second told other a b (same_before start (length script.lists) first second is is_second) runs runs_second
@@ -110,10 +99,6 @@ module _ (schedule : Schedule) (tree input : List ℕ) (script : Script) (core :
   stop_at run.Full why = (script, core.start, are_given, (before_all (state_of core) (length script.lists), before_at, why))
   stop_at (run.UnderWay c) why = (script, core.start, are_given, (before_all (state_of core) (length script.lists), before_at, why))
 
--- where nothing has begun, the tree is one at which a timeline can begin
-pub core_begins : (limit : ℕ) (core : CoreValue) → state_of core ≡ fresh limit core.start (graph_of core.store) → Run (state_of core) → IsStart limit core.start (graph_of core.store)
-core_begins limit core is run = begins_again (fresh limit core.start (graph_of core.store)) (subst Run is run) (λ c. refl)
-
 -- there is no script, or no tree
 pub of_input : (schedule : Schedule) (tree input : List ℕ) (fault : RunFault) → IsFaultOf (script_of input) fault → IsFaultAt schedule tree input (Runs fault)
 of_input schedule tree input (run.Input f) is = is
@@ -134,21 +119,56 @@ of_tree schedule tree input script (Tree f) is none = (script, is, none)
 
 -- ---- where rounds to the end follow
 
-kept_before : (lists : List (List Call)) (start : Start) (first : Stage) → IsBefore start (length lists) first → ListFacts lists [] first
-kept_before lists start first (graph, is, e) = subst (ListFacts lists []) (sym e) (kept_fresh lists (node_limit start.limits) start graph (Starting (node_limit start.limits) start graph is))
-
 pub whole_at : (schedule : Schedule) (tree input : List ℕ) (end : RunEnd) (text : List ℕ) → IsRunAt schedule tree input end text → end.begun < 2 ^ 64 → schedule ≢ Given → IsWhole end
 whole_at schedule tree input end text (script, start, both, told, last, (first, before, runs), (ended, spelled)) fits other =
-    whole_end schedule script first told last end (kept_before script.lists start first before) runs ended (always_goes_on schedule script.words other) fits
+    whole_end schedule script first told last end (kept_first (At start) script first before) runs ended (always_goes_on schedule script.words other) fits
 
 pub finish_at : (schedule : Schedule) (tree input : List ℕ) (end : RunEnd) (text : List ℕ) → IsRunAt schedule tree input end text → end.begun < 2 ^ 64 → HasFinish input → IsWhole end
 finish_at schedule tree input end text (script, start, (is, at), told, last, (first, before, runs), (ended, spelled)) fits (other, is_other, has) =
     let y : other ≡ script = script_is script other (sym is_other ∙ is) in
-    whole_end schedule script first told last end (kept_before script.lists start first before) runs ended (finish_goes_on schedule script.words (subst (λ (s : Script). list_any is_finish s.words ≡ true) y has)) fits
+    whole_end schedule script first told last end (kept_first (At start) script first before) runs ended (finish_goes_on schedule script.words (subst (λ (s : Script). list_any is_finish s.words ≡ true) y has)) fits
 
 -- ---- the history of a run is linearizable
 
 pub linearizable_at : (schedule : Schedule) (tree input : List ℕ) (end : RunEnd) (text : List ℕ) → IsRunAt schedule tree input end text → IsLinearizableRunAt schedule tree input text
 linearizable_at schedule tree input end text (script, start, given, told, last, (first, before, runs), (ended, spelled)) =
-    let run : Run last.state = (last_keeps schedule script first told last (kept_before script.lists start first before) runs).run in
+    let run : Run last.state = (last_keeps schedule script first told last (kept_first (At start) script first before) runs).run in
     (script, start, given, told, last, (first, before, runs), spelled, lawful_is_linearizable last.state.start last.state.timeline (linearizes last.state run).lawful)
+
+-- ---- drawn runs
+
+pub of_given : (seed runs : ℕ) (tree input : List ℕ) (fault : StartFault) → IsFaultOfGiven tree input fault → IsFaultOfRunsAt seed runs tree input fault
+of_given seed runs tree input (Runs (run.Input f)) is = is
+of_given seed runs tree input (Runs run.Read) is = absurd is
+of_given seed runs tree input (Runs run.Write) is = absurd is
+of_given seed runs tree input (Runs run.OutOfMemory) is = tt
+of_given seed runs tree input (Runs run.Full) is = absurd is
+of_given seed runs tree input (Runs (run.UnderWay c)) is = absurd is
+of_given seed runs tree input (Tree f) is = is
+
+pub of_runs : (seed runs : ℕ) (tree input : List ℕ) (script : Script) (start : Start) (fault : RunFault) → AreGiven tree input script start → LacksRun (At start) script seed runs fault → IsFaultOfRunsAt seed runs tree input (Runs fault)
+of_runs seed runs tree input script start (run.Input f) given (n, least, below, is) = absurd is
+of_runs seed runs tree input script start run.Read given (n, least, below, is) = absurd is
+of_runs seed runs tree input script start run.Write given (n, least, below, is) = absurd is
+of_runs seed runs tree input script start run.OutOfMemory given lacks = tt
+of_runs seed runs tree input script start run.Full given lacks = (script, start, given, lacks)
+of_runs seed runs tree input script start (run.UnderWay c) given (n, least, below, is) = absurd is
+
+-- ---- the script and the tree that were read
+
+pub none_given : (tree input : List ℕ) (script : Script) (fault : StartFault) → script_of input ≡ Ok script → IsNoCore script.limits tree fault → IsFaultOfGiven tree input fault
+none_given tree input script (Runs (run.Input f)) is none = absurd none
+none_given tree input script (Runs run.Read) is none = absurd none
+none_given tree input script (Runs run.Write) is none = absurd none
+none_given tree input script (Runs run.OutOfMemory) is none = tt
+none_given tree input script (Runs run.Full) is none = absurd none
+none_given tree input script (Runs (run.UnderWay c)) is none = absurd none
+none_given tree input script (Tree f) is none = (script, is, none)
+
+pub no_script : (tree input : List ℕ) (fault : RunFault) → IsFaultOf (script_of input) fault → IsFaultOfGiven tree input (Runs fault)
+no_script tree input (run.Input f) is = is
+no_script tree input run.Read is = absurd is
+no_script tree input run.Write is = absurd is
+no_script tree input run.OutOfMemory is = tt
+no_script tree input run.Full is = absurd is
+no_script tree input (run.UnderWay c) is = absurd is

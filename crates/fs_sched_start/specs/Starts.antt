@@ -1,17 +1,18 @@
 -- Runs of scripts from a tree, by the limits of the script.
-use Rattle.std.specs.Prelude.{ℕ, ◌≡◌, List, length, Ok, Err}
-use Rattle.fs_names.specs.Limits.{node_limit}
+use Rattle.std.specs.Prelude.{ℕ, ◌≡◌, List, Ok, Err}
 use Rattle.fs_calls.specs.Starts.{Start}
-use Rattle.fs_nodes.specs.Graphs.{Graph}
 use Rattle.fs_timeline.specs.declared.entry.Entry.{Entry}
 use Rattle.fs_linearizable.specs.Linearizable.{history, IsLinearizable}
-use Rattle.fs_machine.specs.States.{IsStart, fresh}
 use Rattle.fs_script.specs.Journals.{start_of}
 use Rattle.fs_script.specs.Script.{script_of}
 use Rattle.fs_script.specs.declared.script.Script.{Script}
 use Rattle.fs_sched.specs.EachRun.{IsReadAgain}
 use Rattle.fs_sched.specs.RunTexts.{IsRunText}
-use Rattle.fs_sched.specs.Runs.{Stage, before_all, RunsFrom, StopsFrom, AreOfRun}
+use Rattle.fs_sched.specs.Origins.{LacksRun}
+pub use Rattle.fs_sched.specs.Origins.{IsBefore, RunsAt, StopsAtSome}
+use Rattle.fs_sched.specs.Runs.{Stage, AreOfRun}
+use Rattle.fs_sched.specs.Seeds.{AreLawfulOn}
+use Rattle.fs_sched.specs.declared.origin.Origin.TheVariants as origin
 use Rattle.fs_sched.specs.declared.running.RunEnd.{RunEnd}
 use Rattle.fs_sched.specs.declared.schedule.Schedule.{Schedule}
 use Rattle.fs_verdict.specs.declared.fault.RunFault.{RunFault}
@@ -19,18 +20,6 @@ use Rattle.fs_verdict.specs.declared.fault.RunFault.TheVariants as run
 use Rattle.fs_sched_start.specs.Faults.{IsTreeFault}
 use Rattle.fs_sched_start.specs.declared.fault.StartFault.{StartFault}
 use Rattle.fs_sched_start.specs.declared.fault.StartFault.TheVariants.{Run, Tree}
-
--- before the first event of so many threads at a tree: nothing has begun, some nodes spell it, and there are as many numbers as its limits have
-abbrev pub IsBefore : Start → ℕ → Stage → Type 0
-IsBefore start threads first = (graph : Graph) × IsStart (node_limit start.limits) start graph × (first ≡ before_all (fresh (node_limit start.limits) start graph) threads)
-
--- a run of a script by a schedule from a tree to its last stage, and the entries of the pieces before the last one
-abbrev pub RunsAt : Schedule → Script → Start → List Entry → Stage → Type 0
-RunsAt schedule script start told last = (first : Stage) × IsBefore start (length script.lists) first × RunsFrom schedule script first told last
-
--- a run from a tree stops by a fault
-abbrev pub StopsAtSome : Schedule → Script → Start → RunFault → Type 0
-StopsAtSome schedule script start f = (first : Stage) × IsBefore start (length script.lists) first × StopsFrom schedule script first f
 
 -- an input has this script, and a text this tree by the script's limits
 abbrev pub AreGiven : List ℕ → List ℕ → Script → Start → Type 0
@@ -77,3 +66,21 @@ IsFaultAt schedule tree input (Run run.OutOfMemory) = Unit {0}
 IsFaultAt schedule tree input (Run run.Full) = ReachesStopAt schedule tree input run.Full
 IsFaultAt schedule tree input (Run (run.UnderWay c)) = ReachesStopAt schedule tree input (run.UnderWay c)
 IsFaultAt schedule tree input (Tree f) = HasTreeFault tree input (Tree f)
+
+-- so many runs of the script from the tree are drawn, each is lawful, and the text says so
+abbrev pub AreRunsAt : List ℕ → ℕ → ℕ → List ℕ → List ℕ → Type 0
+AreRunsAt tree seed runs input text = (script : Script) × (start : Start) × AreGiven tree input script start × AreLawfulOn (origin.Tree start) script seed runs text
+
+-- one of these runs comes to a begin that finds all numbers in use
+abbrev pub SomeFillsAt : List ℕ → ℕ → ℕ → List ℕ → Type 0
+SomeFillsAt tree seed runs input = (script : Script) × (start : Start) × AreGiven tree input script start × LacksRun (origin.Tree start) script seed runs run.Full
+
+-- why there are none: the input's fault, the tree's, out of memory, or too few numbers
+abbrev pub IsFaultOfRunsAt : ℕ → ℕ → List ℕ → List ℕ → StartFault → Type 0
+IsFaultOfRunsAt seed runs tree input (Run (run.Input f)) = script_of input ≡ Err f
+IsFaultOfRunsAt seed runs tree input (Run run.Read) = ⊥
+IsFaultOfRunsAt seed runs tree input (Run run.Write) = ⊥
+IsFaultOfRunsAt seed runs tree input (Run run.OutOfMemory) = Unit {0}
+IsFaultOfRunsAt seed runs tree input (Run run.Full) = SomeFillsAt tree seed runs input
+IsFaultOfRunsAt seed runs tree input (Run (run.UnderWay c)) = ⊥
+IsFaultOfRunsAt seed runs tree input (Tree f) = HasTreeFault tree input (Tree f)

@@ -5,14 +5,20 @@
 //! `run_script` does. The whole text is made before its first byte is written. `Read` or `Write` is answered only if the reader or the
 //! writer failed during this call.
 //!
+//! `seeds_from` does so with drawn schedules and checks each journal, as `run_seeds` does. `given_in` reads both texts for other runners.
+//!
 //! Enter at `run_from`, with what `whole_text` reads of a file. The definitions are in `specs/`: `Starts` (runs from a tree, and what is
 //! said of each of them), `Faults`. The module `laws` says why there is one text, whatever numbers the nodes of the tree get. Two states
 //! that begin at one tree are the same, apart from these numbers.
 #![tactic(auto)]
 
 mod fault;
+mod given;
 pub mod laws;
 mod running;
+mod seeding;
 
 pub use fault::StartFault;
+pub use given::{Given, given_in};
 pub use running::{run_from, whole_text};
+pub use seeding::seeds_from;

@@ -4,7 +4,10 @@ use Rattle.fs_script.specs.declared.script.Script.{Script}
 use Rattle.fs_timeline.specs.declared.entry.Entry.{Entry}
 use Rattle.fs_sched.specs.Runs.{Stage, RunsFrom, StopsBy}
 use Rattle.fs_sched.specs.code.Counts.{AreCapped}
-use Rattle.fs_sched.specs.code.Stages.{stage_of}
+use Rattle.fs_sched.specs.code.Stages.{stage_of, IsWhy}
+use Rattle.fs_sched.specs.Origins.{StopsAtSome}
+use Rattle.fs_sched.specs.declared.origin.Origin.{Origin}
+use Rattle.fs_sched.specs.declared.origin.Origin.TheVariants.{Root, Tree}
 use Rattle.fs_verdict.specs.declared.fault.RunFault.{RunFault}
 use Rattle.fs_verdict.specs.declared.fault.RunFault.TheVariants.{OutOfMemory, UnderWay}
 use Rattle.fs_sched.specs.declared.pieces.Pieces.{Pieces}
@@ -27,3 +30,8 @@ abbrev pub IsStop : Schedule → Script → RunFault → Type 0
 IsStop schedule script OutOfMemory = Unit {0}
 IsStop schedule script (UnderWay c) = StopsBy schedule script (UnderWay c)
 IsStop schedule script f = ⊥
+
+-- the same where it begins there; from a tree it can also be a begin when all numbers are in use
+abbrev pub IsStopOn : Origin → Schedule → Script → RunFault → Type 0
+IsStopOn Root schedule script f = IsStop schedule script f
+IsStopOn (Tree tree) schedule script f = IsWhy (StopsAtSome schedule script tree) f

@@ -1,17 +1,22 @@
 -- What is made of the texts of a script and of a tree, before it is written.
-use Rattle.std.specs.Prelude.{◌≡◌, ℕ, [], List, Result, Ok, IfOk, OnOk, IfErr}
+use Rattle.std.specs.Prelude.{◌≡◌, ℕ, Bool, true, [], List, Result, Ok, Err, IfOk, OnOk, IfErr}
 use Rattle.fs_names.specs.Limits.{node_limit}
 use Rattle.fs_names.specs.declared.limits.Limits.{Limits}
+use Rattle.fs_calls.specs.Starts.{Start}
 use Rattle.fs_nodes.specs.Stores.{graph_of}
 use Rattle.fs_core.specs.CoreValues.{CoreValue, state_of}
 use Rattle.fs_verdict.specs.declared.shell.Made.{Made}
 use Rattle.fs_machine.specs.States.{IsStart, fresh}
 use Rattle.fs_script.specs.Journals.{start_of}
+use Rattle.fs_script.specs.Script.{script_of}
+use Rattle.fs_sched.specs.Origins.{Fits}
+use Rattle.fs_sched.specs.declared.origin.Origin.TheVariants as origin
 use Rattle.fs_sched.specs.declared.running.RunEnd.{RunEnd}
 use Rattle.fs_sched.specs.declared.schedule.Schedule.{Schedule}
 use Rattle.fs_verdict.specs.declared.fault.RunFault.TheVariants as run
 use Rattle.fs_sched_start.specs.Faults.{IsTreeFault}
-use Rattle.fs_sched_start.specs.Starts.{IsRunAt, EachIsReadAgainAt, IsFaultAt}
+use Rattle.fs_sched_start.specs.Starts.{AreGiven, AreRunsAt, IsRunAt, EachIsReadAgainAt, HasTreeFault, IsFaultAt, IsFaultOfRunsAt}
+use Rattle.fs_sched_start.specs.declared.given.Given.{Given}
 use Rattle.fs_sched_start.specs.declared.fault.StartFault.{StartFault}
 use Rattle.fs_sched_start.specs.declared.fault.StartFault.TheVariants.{Run, Tree}
 
@@ -21,6 +26,7 @@ pub record IsCoreAt (limits : Limits) (text : List ℕ) (core : CoreValue) : Typ
   pub fresh : state_of core ≡ fresh (node_limit core.start.limits) core.start (graph_of core.store)
   pub seats : core.seats ≡ []
   pub begins : IsStart (node_limit core.start.limits) core.start (graph_of core.store)
+  pub fits : Fits limits core.start
 
 -- why there is none: the text's fault, or out of memory
 abbrev pub IsNoCore : Limits → List ℕ → StartFault → Type 0
@@ -33,3 +39,20 @@ pub record MakesRunAt (schedule : Schedule) (tree : List ℕ) (input : List ℕ)
   pub output : IfOk result (λ made. IsRunAt schedule tree input made.end made.text.items)
   pub again : OnOk result (EachIsReadAgainAt schedule tree input)
   pub fault : IfErr result (IsFaultAt schedule tree input)
+
+-- a script and where its runs begin, by two texts
+abbrev pub IsGiven : List ℕ → List ℕ → Given → Type 0
+IsGiven tree input given = (start : Start) × AreGiven tree input given.script start × (given.from ≡ origin.Tree start)
+
+-- why there are none: the input's fault, the tree's, or out of memory
+abbrev pub IsFaultOfGiven : List ℕ → List ℕ → StartFault → Type 0
+IsFaultOfGiven tree input (Run (run.Input f)) = script_of input ≡ Err f
+IsFaultOfGiven tree input (Run run.OutOfMemory) = Unit {0}
+IsFaultOfGiven tree input (Run f) = ⊥
+IsFaultOfGiven tree input (Tree f) = HasTreeFault tree input (Tree f)
+
+-- the lines of drawn runs from a tree, each of which is lawful; or why there are none
+pub record MakesRunsAt (seed : ℕ) (runs : ℕ) (tree : List ℕ) (input : List ℕ) (result : Result (Made Bool) StartFault) : Type 0 where
+  pub ok : IfOk result (λ made. AreRunsAt tree seed runs input made.text.items)
+  pub lawful : IfOk result (λ made. made.end ≡ true)
+  pub fault : IfErr result (IsFaultOfRunsAt seed runs tree input)

@@ -1,4 +1,4 @@
-use Rattle.std.proofs.Common.{◌≡◌, ◌++◌, take}
+use Rattle.std.proofs.Common.{◌≡◌, ◌++◌}
 use Rattle.std.specs.List.{flat_map}
 use Rattle.fs_names.specs.Limits.{largest}
 use Rattle.fs_text.specs.Fits.{AllFit}
@@ -11,9 +11,9 @@ use Rattle.fs_sched.proofs.run_texts.journal_text.Given as goal
 -- the text and the numbers of the entries so far
 abbrev pub invariant-loop-entry : goal.invariant-loop-entry
 invariant-loop-entry l = record {
-  fit : AllFit largest (take l.entry-index l.entries);
-  text : l.text.items ≡ opening l.start ++ flat_map entry_line (take l.entry-index l.entries);
-  begun : l.begun ≡ number_of kind.Begin (take l.entry-index l.entries);
-  committed : l.committed ≡ number_of kind.Commit (take l.entry-index l.entries);
-  returned : l.returned ≡ number_of kind.Return (take l.entry-index l.entries);
+  fit : AllFit largest l.yielded;
+  text : l.text.items ≡ opening l.start ++ flat_map entry_line l.yielded;
+  begun : l.begun ≡ number_of kind.Begin l.yielded;
+  committed : l.committed ≡ number_of kind.Commit l.yielded;
+  returned : l.returned ≡ number_of kind.Return l.yielded;
 }

@@ -2,7 +2,7 @@ use Rattle.std.proofs.Common.{ℕ, ◌+◌, sym, ◌∙◌, ap₂, subst, get_or
 use Rattle.fs_words.specs.Lines.{lines_of}
 use Rattle.fs_sched_start.specs.Faults.{told_lines, IsNodeTooMany}
 use Rattle.fs_sched_start.proofs.NodeLines.{node_too_many}
-use Rattle.fs_sched_start.proofs.running.too_many_nodes.Goals as goal
+use Rattle.fs_sched_start.proofs.given.too_many_nodes.Goals as goal
 
 pub returns : goal.returns
 returns c start is many =

@@ -1,6 +1,6 @@
 use Rattle.std.proofs.Common.{length}
 use Rattle.fs_sched_start.proofs.NodeLines.{HasPassed}
-use Rattle.fs_sched_start.proofs.running.line_behind.Given as goal
+use Rattle.fs_sched_start.proofs.given.line_behind.Given as goal
 
 abbrev pub invariant-lines : goal.invariant-lines
 invariant-lines l = HasPassed l.text l.left l.number l.told l.lines

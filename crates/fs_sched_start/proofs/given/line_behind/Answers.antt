@@ -2,7 +2,7 @@ use Rattle.std.proofs.Common.{rules, ◌≡◌, ◌<◌, false, arith}
 use Rattle.std.proofs.lemmas.Bool.Decides.{nat_tests}
 use Rattle.fs_words.specs.Lines.{is_passed_over}
 use Rattle.fs_sched_start.proofs.NodeLines.{told_line}
-use Rattle.fs_sched_start.proofs.running.line_behind.Goals as goal
+use Rattle.fs_sched_start.proofs.given.line_behind.Goals as goal
 
 pub lines-preserved-else-told-lines : goal.lines-preserved-else-told-lines
 lines-preserved-else-told-lines c =
