@@ -450,7 +450,7 @@ class Shown(Page):
         ("docs/RATTLE.md", "rust", 2, "tests/documents.py"),
         ("docs/READING-LIST.md", "", 1, "tests/documents.py"),
         ("docs/FORMATS.md", "", 2, "tests/documents.py"),
-        ("docs/COMMANDS.md", "", 4, "tests/progress.py, tests/dialects.py"),
+        ("docs/COMMANDS.md", "", 6, "tests/progress.py, tests/drawn_starts.py, tests/dialects.py"),
         ("docs/PICTURES.md", "", 3, "tests/objects.py"),
         ("docs/PLAYER.md", "python", 1, "tests/tutorials.py"),
         ("docs/TEST-A-FILE-SYSTEM.md", "", 4, "tests/histories.py, tests/recorders.py"),
@@ -985,8 +985,8 @@ class EachCommand(Page):
         "NAME": "fs_calls",
         "COMMAND": "run",
         "CALL": "1",
-        "TREE": str(DATA / "starts" / "moved.tree"),
-        **dict.fromkeys(("SCRIPT", "A", "B", "C"), "examples/one_name.script"),
+        **dict.fromkeys(("TREE", "counter.tree"), str(DATA / "starts" / "moved.tree")),
+        **dict.fromkeys(("SCRIPT", "A", "B", "C", "counter.script"), "examples/one_name.script"),
         "none.history": "-",
         "alone.history": "-",
     }
@@ -1749,14 +1749,16 @@ class Listed(Page):
         statuses = re.findall(r"^  (\d)  ", (DATA / "help" / "atomfs").read_text(), re.M)
         shown = sorted({status for status, *_ in rows})
         self.agrees("the statuses", shown, [status for status in statuses if status != "0"])
+        # find and shrink: fs_sched_shrink
+        searches = "fs_sched_find", "fs_sched_outcomes", "fs_sched_shrink"
         sources = "".join(
             source(f"{crate}/src/fault.rt")
-            for crate in ("fs_verdict", "fs_sched_threads", "fs_trace", "fs_sched_find", "fs_draw", "fs_trace_replay")
+            for crate in ("fs_verdict", "fs_sched_threads", "fs_trace", *searches, "fs_draw", "fs_trace_replay")
         )
         told = re.findall(r'#\[error\("(?!CALL is )([^"]*\w \w[^"]*|full)"', sources) + re.findall(
             r'"atomfs: ([^"]*\bha(?:s|ve) it\b[^"]*)"', source("atomfs_answers/src/status.rt")
         )
-        messages = [re.sub(r"\{\w*\}", "N", message) for message in told]
+        messages = {re.sub(r"\{\w*\}", "N", message) for message in told}
         said = {span for _, message, _ in rows for span in spans(message)}
         self.agrees("the messages", sorted(said - {"line N: KIND"}), sorted(messages))
 

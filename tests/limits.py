@@ -958,6 +958,17 @@ class Stack(Case):
                 with self.subTest(f"{words[0]}, {name}"):
                     self.ends(text.splitlines(), *words)
 
+    def test_start_trees(self) -> None:
+        """A deep tree at which runs start."""
+        text = self.ends(script(deep(300)), *RUN).output
+        with tempfile.TemporaryDirectory() as folder:
+            tree = pathlib.Path(folder, "tree")
+            tree.write_bytes(text[text.index(b"tree\n") : text.rindex(b"begun ")])
+            ends = "outcomes", *SEEDS[1:]
+            for words in (RUN, SEEDS, ends, (*ends, "--always", "tree dir /x")):
+                with self.subTest(" ".join(words)):
+                    self.ends(script(["stat /p", "mkdir /x", "rename /p /x/p"]), *words, "--from", str(tree))
+
     def test_help(self) -> None:
         self.each(
             (

@@ -195,6 +195,12 @@ class Completions(Made):
         yield ("run", "--seed"), "j", []
         yield ("run", "--from"), "j", ["journal"]
         yield ("run", "--from", "journal"), "o", ["other.script"]
+        for name in ("seeds", "outcomes"):
+            yield (name, "--from"), "j", ["journal"]
+            yield (name, "--seed", "1", "--runs", "2", "--from", "journal"), "o", ["other.script"]
+        # find and shrink
+        for name in ("find", "shrink"):
+            yield (name, "--from"), "j", ["journal"]
         yield ("tree", "--who"), "j", []
         yield ("explain",), "", KINDS
         yield ("explain", "BadPath"), "Tra", ["TrailingSlash"]
@@ -211,7 +217,12 @@ class Completions(Made):
     def test_short_options(self) -> None:
         """They have short names too."""
         self.same("the options of the program", options(PROGRAM), ["-h", "--help", "-V", "--version"])
-        self.same("those of run", options("run"), ["--robin", "--seed", "--from", "--color", "-h", "--help"])
+        ends = "--color", "-h", "--help"
+        self.same("those of run", options("run"), ["--robin", "--seed", "--from", *ends])
+        self.same("those of seeds", options("seeds"), ["--seed", "--runs", "--from", "--json", *ends])
+        lines, asserted = ("--trees", "--all", "--add"), ("--never", "--always", "--sometimes")
+        due = ["--seed", "--runs", "--from", *lines, *asserted, "--json", *ends]
+        self.same("those of outcomes", options("outcomes"), due)
 
     def by_bash(self, typed: typing.Iterable[tuple[str, ...]]) -> list[list[str]]:
         """What the function leaves, which bash calls with the words."""

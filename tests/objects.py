@@ -34,6 +34,8 @@ STARTED = (
     b"atomfs-journal 2\nstart\ndir /\ndir /a\nfile /a/f 6869\nentries\nbegin 7 0 rename /a /b\nbegin 9 31 mkdir /b\ncommit 7\ncommit 9\n"
     b"return 9 failed EEXIST\nreturn 7 ok\nbegin 12 0 truncate /b/f 2\ncommit 12\nreturn 12 ok\nbegin 13 0 exchange /b /b/f\n"
 )
+# A tree at which drawn runs start.
+MOVED = str(DATA / "starts" / "moved.tree")
 SHORT = {'"': '\\"', "\\": "\\\\", "\n": "\\n"}
 
 
@@ -184,6 +186,13 @@ def cut_off(journal: bytes, number: int) -> bytes:
     return b"".join(entries[: random.Random(number).randrange(1, len(entries) + 1)])
 
 
+def of_find(outcome: Outcome) -> bytes:
+    """The object of a search: the seed and the script; where no run has it, no seed."""
+    if outcome.status:
+        return objects({"seed": None})
+    return objects({"seed": int(outcome.message.split()[-1]), "script": outcome.output.decode("latin-1")})
+
+
 def rows_of(text: bytes) -> list[list[str]]:
     """The lines of `outcomes`, each with its tree behind it."""
     rows: list[list[str]] = []
@@ -256,6 +265,34 @@ class Objects(Case):
 
         self.each_script(look)
 
+    def test_from_a_tree(self) -> None:
+        """Of drawn runs from a tree: the verdicts, the ends, and what is asserted of them."""
+
+        def look(number: int) -> None:
+            given, start = script_of(number), ("--seed", str(number), "--runs", str(TIMES), "--from", MOVED)
+            lawful = ({"seed": number + place, "lawful": True} for place in range(TIMES))
+            self.ends_alike(given, ("seeds", *start), lambda plain: objects(*lawful))
+            for words in (("--all",), ("--trees", "--never", "tree dir /a/b", "--always", "tree dir /a/b")):
+                self.ends_alike(
+                    given,
+                    ("outcomes", *start, *words),
+                    lambda plain: objects(*(of_row(*row) for row in rows_of(plain.output))),
+                )
+
+        self.each(((f"script_{number}", number) for number in range(0, SCRIPTS + LISTING, 6)), look)
+
+    # find and shrink
+    def test_find_from_a_tree(self) -> None:
+        """Of drawn runs from a tree."""
+
+        def look(number: int, what: str) -> None:
+            words = "find", "--where", what, "--seed", str(number), "--runs", str(TIMES), "--from", MOVED
+            self.ends_alike(script_of(number), words, of_find)
+
+        whats = "tree dir /a/b", "not tree dir /a/b"
+        numbers = range(0, SCRIPTS + LISTING, 6)
+        self.each(((f"script_{number}, {what}", number, what) for number in numbers for what in whats), look)
+
     def test_added_outcomes(self) -> None:
         """Of lines that are added up the digits stand for the trees."""
         asks_of_answers()
@@ -277,13 +314,8 @@ class Objects(Case):
     def test_find(self) -> None:
         """The seed and the script; where no run has it, no seed."""
 
-        def found(plain: Outcome) -> bytes:
-            if plain.status:
-                return objects({"seed": None})
-            return objects({"seed": int(plain.message.split()[-1]), "script": plain.output.decode("latin-1")})
-
         def look(given: bytes, what: str) -> None:
-            self.ends_alike(given, ("find", "--where", what, "--seed", "1", "--runs", "50"), found)
+            self.ends_alike(given, ("find", "--where", what, "--seed", "1", "--runs", "50"), of_find)
 
         scripts = [
             (f"script_{number}", script_of(number), f"{no}reply t0#1 failed")
@@ -349,6 +381,9 @@ class Objects(Case):
             ("a journal", WRONG, "seeds", "--seed", "1", "--runs", "2"),
             ("a journal's outcomes", WRONG, "outcomes", "--seed", "1", "--runs", "2"),
             ("no lines", WRONG, "outcomes", "--add"),
+            ("no tree", BYTES, "seeds", "--seed", "1", "--runs", "2", "--from", str(ROOT / "README.md")),
+            ("no tree of ends", BYTES, "outcomes", "--seed", "1", "--runs", "2", "--from", str(ROOT / "README.md")),
+            ("no file", BYTES, "outcomes", "--seed", "1", "--runs", "2", "--from", "/nowhere"),
             ("a journal is searched", WRONG, "find", "--where", "helped m#1", "--seed", "1", "--runs", "2"),
             ("no such call", BYTES, "find", "--where", "helped m#9", "--seed", "1", "--runs", "2"),
             ("no condition", BYTES, "find", "--where", "helped", "--seed", "1", "--runs", "2"),

@@ -73,18 +73,19 @@ def asked(script: bytes, seed: int, runs: int, *words: str) -> Outcome:
     return run(script, "outcomes", "--seed", str(seed), "--runs", str(runs), *words)
 
 
-class Outcomes(Case):
-    def wanted(self, script: bytes, seed: int, runs: int) -> list[Row]:
-        """The table of a loop over `atomfs run`."""
-        return table(
-            [
-                (number, end_of(run(script, "run", "--seed", str(number)).output, script))
-                for number in range(seed, seed + runs)
-            ]
-        )
+def rows_of_runs(script: bytes, seed: int, runs: int, *start: str) -> list[Row]:
+    """The table of a loop over `atomfs run`; with further words each of these runs starts elsewhere."""
+    return table(
+        [
+            (number, end_of(run(script, "run", "--seed", str(number), *start).output, script))
+            for number in range(seed, seed + runs)
+        ]
+    )
 
+
+class Outcomes(Case):
     def look(self, script: bytes, seed: int, runs: int, *words: str) -> None:
-        rows = self.wanted(script, seed, runs)
+        rows = rows_of_runs(script, seed, runs)
         self.same(
             script, asked(script, seed, runs, *words), Outcome(0, lines(rows, "--all" in words, "--trees" in words))
         )

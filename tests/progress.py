@@ -17,6 +17,8 @@ from typing import Sequence
 from harness import DATA, MOST_SECONDS, Case, program, run, takes_a_process
 
 PROGRESS = DATA / "progress"
+# A tree at which drawn runs start.
+MOVED = str(DATA / "starts" / "moved.tree")
 # A rename of what is not there, 60 names deep, which holds the root until it has found that out.
 DEEP = b"/a" * 60
 RENAME = b"rename %s/x /y\n" % DEEP
@@ -51,6 +53,7 @@ ROWS: tuple[tuple[str, bytes, tuple[str, ...]], ...] = (
     ("run", renames(200, 100), ("run",)),
     ("run_drawn", renames(200, 100), ("run", "--seed", "7")),
     ("seeds", renames(4, 100), ("seeds", "--seed", "1", "--runs", "1000")),
+    ("seeds", renames(4, 100), ("seeds", "--seed", "1", "--runs", "1000", "--from", MOVED)),
     ("threads", renames(5, 16_000), ("threads",)),
     ("linearize", exchanges(100), ("linearize",)),
     ("linearize_many", exchanges(1, 30_000), ("linearize", "--many")),

@@ -120,6 +120,18 @@ class Program(Preloaded):
                 b"seed 7 lawful\nseed 8 lawful\nseed 9 lawful\n",
             ),
             ("outcomes", "outcomes --seed 7 --runs 1 --all", "helped_rename.script", ends_of("helped_rename")),
+            (
+                "seeds from a tree",
+                f"seeds --seed 7 --runs 2 --from {STARTS}/moved.tree",
+                "../../starts/moved.script",
+                b"seed 7 lawful\nseed 8 lawful\n",
+            ),
+            (
+                "outcomes from a tree",
+                f"outcomes --seed 7 --runs 1 --all --from {STARTS}/moved.tree",
+                "../../starts/moved.script",
+                ends_of("../../starts/moved"),
+            ),
             ("check", "check", "errors_of_each_call.text", b"lawful\n"),
             ("check as an object", "check --json", "errors_of_each_call.text", b'{"lawful":true}\n'),
             (

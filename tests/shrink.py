@@ -9,17 +9,22 @@ import unittest
 from typing import Iterable, Iterator
 
 from find import CALL, LINE, REPLY, WORDS, Script, drawn_script, has, seen
-from harness import Case, Outcome, asks_of_answers, run, takes_a_process
+from harness import DATA, Case, Outcome, asks_of_answers, run, takes_a_process
 
-SCRIPTS = 200
+SCRIPTS, FROM_TREE = 200, 60
+MOVED = str(DATA / "starts" / "moved.tree")
 RACE = b"atomfs 1\n# two threads\nthread m\nmkdir /a\nmkdir /a/d\nmkdir /e\nthread r\nrename /a /b\nschedule\nm*5 r*9\n# the rest\nfinish\n"
 TOLD = re.compile(rb"atomfs: calls (\d+), words (\d+), where (.*)\n")
 
 
-def has_it(script: Script, what: str) -> bool:
-    """Whether the run of a script by its own words has what is said."""
+def has_it(script: Script, what: str, tree: str | None = None) -> bool:
+    """Whether the run of a script by its own words has what is said. From a tree it has no trace, so nothing is said of helping and waiting there."""
     text = script.text()
-    output, trace = (run(text, command).output for command in ("run", "trace"))
+    if tree:
+        output, trace = run(text, "run", "--from", tree).output, b""
+        output = output[output.index(b"entries\n") :]
+    else:
+        output, trace = (run(text, command).output for command in ("run", "trace"))
     return bool(output) and has(what, seen(list(script.threads), output, trace))
 
 
@@ -78,9 +83,15 @@ class Shrinks(Case):
         script, what = drawn_script(draw)
         if draw.randrange(2):
             script = read(run(script.text(), "schedule", "--seed", str(draw.randrange(1000))).output)
-        given = f"atomfs shrink --where '{what}'\n{script.text().decode()}"
-        came = run(script.text(), "shrink", "--where", what)
-        if not has_it(script, what):
+        self.shrinks(script, what)
+
+    def shrinks(self, script: Script, what: str, tree: str | None = None) -> None:
+        """What is left of a script still has what is said, and nothing more can go."""
+        start: tuple[str, ...] = ("--from", tree) if tree else ()
+        words = "shrink", "--where", what, *start
+        given = f"atomfs {shlex.join(words)}\n{script.text().decode()}"
+        came = run(script.text(), *words)
+        if not has_it(script, what, tree):
             return self.same(given, came, Outcome(1, b"", b"atomfs: its run does not have it\n"))
         told = TOLD.fullmatch(came.message)
         self.assertTrue(came.status == 0 and told, f"{given}\n{came}")
@@ -97,13 +108,28 @@ class Shrinks(Case):
             self.assertEqual(
                 (other, shrunk.threads[other][int(new) - 1]), (name, script.threads[name][int(place) - 1]), given
             )
-        self.assertTrue(has_it(shrunk, now), f"{given}\n{came}")
+        self.assertTrue(has_it(shrunk, now, tree), f"{given}\n{came}")
         for less, said in smaller(shrunk, now):
-            self.assertFalse(has_it(less, said), f"{given}\n{came}\nand less\n{less.text().decode()}")
+            self.assertFalse(has_it(less, said, tree), f"{given}\n{came}\nand less\n{less.text().decode()}")
 
     def test_drawn(self) -> None:
         asks_of_answers()
         self.each(((f"script_{number}", number) for number in range(SCRIPTS)), self.look)
+
+    # find and shrink
+    def test_drawn_from_a_tree(self) -> None:
+        """The same of runs that start at a tree."""
+        asks_of_answers()
+
+        def look(number: int) -> None:
+            draw = random.Random(f"tree {number}")
+            script, what = drawn_script(draw)
+            while re.search("helped|waits", what):
+                script, what = drawn_script(draw)
+            words = [f"t{draw.randrange(3)}*{draw.randint(1, 9)}" for _ in range(draw.randrange(12))]
+            self.shrinks(Script(script.threads, [*words, *script.words]), what, MOVED)
+
+        self.each(((f"script_{number}", number) for number in range(FROM_TREE)), look)
 
 
 class Rows(Case):

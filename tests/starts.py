@@ -1,6 +1,7 @@
 """Runs from a tree in a file: `atomfs run --from`, each schedule of it, and files that have none.
 
 What a run from a tree writes is what a run writes that comes to the tree by calls and begins again there: tests/model.py says what that is.
+tests/drawn_starts.py looks at drawn runs, but for those from a tree in which all numbers are in use.
 """
 import os
 import shlex
@@ -19,6 +20,8 @@ NODE_LIMIT = 1_048_576
 # The most bytes of a text by the first two sets of limits, and by the third.
 TEXT_LIMIT, THIRD_TEXT_LIMIT = 16_777_216, 1_073_741_824
 ONE_CALL = b"atomfs 1\nthread t\nmkdir /b\nschedule\nfinish\n"
+LOOK = ONE_CALL.replace(b"mkdir /b", b"stat /")
+ONE_RUN = "--seed", "1", "--runs", "1"
 # The files that have trees. They stand as long as the program answers.
 FOLDER = tempfile.TemporaryDirectory()
 
@@ -47,9 +50,9 @@ def journal_of(version: int, *nodes: str) -> bytes:
     return checkpoints.text_of(f"atomfs-journal {version}", "start", "dir /", *nodes, "entries")
 
 
-def played(pieces: typing.Sequence[typing.Sequence[str]]) -> bytes:
+def played(pieces: typing.Sequence[typing.Sequence[str]], version: int = 1) -> bytes:
     """The text of the tree that the calls of some pieces make."""
-    tree = model.Tree()
+    tree = model.Tree(version)
     for calls in pieces:
         for call in calls:
             tree.apply(call.split(" "))
@@ -70,10 +73,29 @@ def many(nodes: int) -> bytes:
     return tree_of(*lines[:left])
 
 
-class Starts(harness.Case):
+class Asked(harness.Case):
+    """What comes of a command whose runs start at a tree in a file."""
+
     def ends(self, words: typing.Sequence[str], given: bytes, wanted: Outcome) -> None:
         self.same(f"atomfs {shlex.join(words)}\n{given.decode()}", run(given, *words), wanted)
 
+    def refused(self, words: typing.Sequence[str], text: bytes, given: bytes, told: str) -> None:
+        assert self.row
+        path = in_file("-".join(self.row.split()), text)
+        wanted = Outcome(3, b"", f"atomfs: {path}: {told}\n".encode())
+        self.ends((*words, "--from", path), given, with_line(wanted, text, is_tree=True))
+
+    def unread(self, words: typing.Sequence[str]) -> None:
+        """A file that is not there, a folder, and no name."""
+        for path, why in (
+            (f"{FOLDER.name}/missing", "no such file"),
+            (FOLDER.name, "read failed"),
+            ("", "no such file"),
+        ):
+            self.ends((*words, "--from", path), ONE_CALL, Outcome(5, b"", f"atomfs: {path}: {why}\n".encode()))
+
+
+class Starts(Asked):
     def test_schedules(self) -> None:
         """From the tree alone, and from a journal that starts at it; the journal that is written starts there too."""
         tree, text, again = f"{MOVED}.tree", of("text"), f"{MOVED}.text"
@@ -174,12 +196,6 @@ class Starts(harness.Case):
             self.ends(("run", "--from", in_file(f"journal_{number}", wanted.output)), given, wanted)
 
         self.each(((f"pieces_{number}", number) for number in range(SCRIPTS)), look)
-
-    def refused(self, words: typing.Sequence[str], text: bytes, given: bytes, told: str) -> None:
-        assert self.row
-        path = in_file("-".join(self.row.split()), text)
-        wanted = Outcome(3, b"", f"atomfs: {path}: {told}\n".encode())
-        self.ends((*words, "--from", path), given, with_line(wanted, text, is_tree=True))
 
     def test_files_without_a_tree(self) -> None:
         long, short = "dir /" + "n" * 33, "dir /" + "n" * 32
@@ -302,19 +318,15 @@ class Starts(harness.Case):
         self.ends(("run", "--from", path), given, wanted)
 
     def test_files_that_cannot_be_read(self) -> None:
-        for path, why in (
-            (f"{FOLDER.name}/missing", "no such file"),
-            (FOLDER.name, "read failed"),
-            ("", "no such file"),
-        ):
-            self.ends(("run", "--from", path), ONE_CALL, Outcome(5, b"", f"atomfs: {path}: {why}\n".encode()))
+        self.unread(("run",))
 
     def test_limits(self) -> None:
         """As many nodes as there are numbers, one more, and texts that are too long."""
         takes_a_process()
         full = in_file("full", many(NODE_LIMIT))
         self.ends(("run", "--from", full), ONE_CALL, Outcome(4, b"", b"atomfs: full\n"))
-        self.same("stat /", run(ONE_CALL.replace(b"mkdir /b", b"stat /"), "run", "--from", full).status, 0)
+        self.same("stat /", run(LOOK, "run", "--from", full).status, 0)
+        self.drawn_from_full(full)
         self.same(
             "by the third limits", run(ONE_CALL.replace(b"atomfs 1", b"atomfs 3"), "run", "--from", full).status, 0
         )
@@ -329,6 +341,16 @@ class Starts(harness.Case):
         self.refused(("run",), b"tree\n".ljust(TEXT_LIMIT + 1, b"#"), ONE_CALL, "line 1: TooLarge")
         self.row = "a byte too many in a journal"
         self.refused(("run",), b"atomfs-journal 2\n".ljust(TEXT_LIMIT + 1, b"#"), ONE_CALL, "line 1: TooLarge")
+
+    def drawn_from_full(self, full: str) -> None:
+        """Drawn runs from there end as that by a script's own schedule does."""
+        for words in (("seeds",), ("outcomes",), ("outcomes", "--never", "helped t#1")):
+            self.ends((*words, *ONE_RUN, "--from", full), ONE_CALL, Outcome(4, b"", b"atomfs: full\n"))
+        self.ends(("seeds", *ONE_RUN, "--from", full), LOOK, Outcome(0, b"seed 1 lawful\n"))
+        # find and shrink
+        for words in (("find", *ONE_RUN), ("shrink",)):
+            asked = *words, "--where", "helped t#1", "--from", full
+            self.ends(asked, ONE_CALL, Outcome(4, b"", b"atomfs: full\n"))
 
     def test_third_texts(self) -> None:
         """A tree of more nodes, and texts that would be too long by the others; and one that is too long."""

@@ -120,6 +120,8 @@ class Words(Case):
                 ("seeds --runs 1 --seed 0", of(HELPED), lawful(0, 1)),
                 ("seeds --seed 9223372036854775807 --runs 2", of(HELPED), lawful(9_223_372_036_854_775_807, 2)),
                 ("seeds --seed 1 --runs 10000", EMPTY, lawful(1, 10_000)),
+                (f"seeds --seed 7 --runs 3 --from {MOVED}.tree", of(MOVED), lawful(7, 3)),
+                (f"seeds --from={MOVED}.text --seed=7 --runs=3", of(MOVED), lawful(7, 3)),
                 (
                     "tree",
                     of(HELPED),
@@ -269,6 +271,7 @@ class Words(Case):
             "run --seed 7",
             "seeds --seed 1 --runs 3",
             "outcomes --seed 1 --runs 3",
+            f"outcomes --seed 1 --runs 3 --from {MOVED}.tree",
             "find --where 'helped m#2' --seed 1 --runs 9",
         )
         of_script += (
@@ -303,10 +306,16 @@ class Words(Case):
             )
             for words, _ in (*commands, ("linearize", ""), ("linearize --many", ""), ("outcomes --add", ""))
         )
-        of_tree = f"run --from /nowhere {files['.script']}"
+        from_nowhere = f"--from /nowhere {files['.script']}"
+        no_tree = Outcome(5, b"", b"atomfs: /nowhere: no such file\n")
         self.all_end(
             (
-                ("a tree that is not there", of_tree, b"", Outcome(5, b"", b"atomfs: /nowhere: no such file\n")),
+                ("a tree that is not there", f"run {from_nowhere}", b"", no_tree),
+                ("no tree of drawn runs", f"seeds --seed 1 --runs 1 {from_nowhere}", b"", no_tree),
+                ("no tree of ends", f"outcomes --seed 1 --runs 1 {from_nowhere}", b"", no_tree),
+                # find and shrink
+                ("no tree of a search", f"find --where 'tree dir /' --seed 1 --runs 1 {from_nowhere}", b"", no_tree),
+                ("no tree of a smaller script", f"shrink --where 'tree dir /' {from_nowhere}", b"", no_tree),
                 (
                     "below a file",
                     f"run {files['.script']}/x",
@@ -501,7 +510,17 @@ class Words(Case):
                     "run --from a --from b",
                     misused("the argument '--from <TREE>' cannot be used multiple times", of_run),
                 ),
-                ("seeds --from a --seed 1 --runs 1", unexpected("--from", of_seeds)),
+                ("threads --from a", unexpected("--from", "threads [OPTIONS] [FILE]")),
+                ("check --from a", unexpected("--from", "check [OPTIONS] [FILE]")),
+                (
+                    "seeds --seed 1 --runs 1 --from",
+                    misused("a value is required for '--from <TREE>' but none was supplied"),
+                ),
+                (
+                    "seeds --from a --seed 1 --runs 1 --from b",
+                    misused("the argument '--from <TREE>' cannot be used multiple times", of_seeds),
+                ),
+                ("seeds --from a", misused(f"{missing}\n  --seed <N>\n  --runs <K>", of_seeds)),
                 ("seeds", misused(f"{missing}\n  --seed <N>\n  --runs <K>", of_seeds)),
                 ("seeds --runs 1", misused(f"{missing}\n  --seed <N>", of_seeds)),
                 ("seeds --seed 1", misused(f"{missing}\n  --runs <K>", of_seeds)),
@@ -523,10 +542,10 @@ class Words(Case):
                     "find --where 'tree dir /' --seed 7 --runs 1000001",
                     unread(1_000_001, "--runs <K>", "1000001 is not in 1..=1000000"),
                 ),
-                ("shrink", misused(f"{missing}\n  --where <WHAT>", "shrink --where <WHAT> [FILE]")),
+                ("shrink", misused(f"{missing}\n  --where <WHAT>", "shrink --where <WHAT> [OPTIONS] [FILE]")),
                 (
                     "shrink --where 'tree dir /' --seed 7",
-                    unexpected("--seed", "shrink --where <WHAT> [FILE]"),
+                    unexpected("--seed", "shrink --where <WHAT> [OPTIONS] [FILE]"),
                 ),
                 ("tree --at x", unread("x", "--at <N>", "invalid digit found in string")),
                 (
@@ -548,6 +567,15 @@ class Words(Case):
                 (
                     "outcomes --add --runs 1",
                     misused("the argument '--add' cannot be used with '--runs <K>'", of_outcomes),
+                ),
+                ("outcomes --from a --seed 1", misused(f"{missing}\n  --runs <K>", of_outcomes)),
+                (
+                    "outcomes --add --from a",
+                    misused("the argument '--add' cannot be used with '--from <TREE>'", of_outcomes),
+                ),
+                (
+                    "outcomes --from a --add",
+                    misused("the argument '--from <TREE>' cannot be used with '--add'", of_outcomes),
                 ),
                 ("outcomes --add --trees", misused("the argument '--add' cannot be used with '--trees'", of_outcomes)),
                 (
@@ -722,6 +750,12 @@ class Process(Case):
                 ("a script as a journal", ("check",), of(HELPED), 3),
                 ("a script as a tree", ("run", "--from", f"{MOVED}.script"), of(MOVED), 3),
                 ("no file", ("run", "--from", f"{MOVED}.missing"), of(MOVED), 5),
+                (
+                    "a script as the tree of ends",
+                    ("outcomes", "--seed", "1", "--runs", "1", "--from", f"{MOVED}.script"),
+                    of(MOVED),
+                    3,
+                ),
                 ("a run", ("run",), of(ONE_CALL), 5),
                 ("a run with calls left", ("run",), of(CUT), 5),
                 ("a journal that is not lawful", ("check",), WRONG, 5),

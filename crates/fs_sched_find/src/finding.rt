@@ -7,17 +7,18 @@ ghost use Rattle.fs_script.specs.Script.{script_of};
 ghost use Rattle.fs_script.specs.Limits.{call_limit};
 ghost use Rattle.fs_sched.specs.Devices.{KeepsDevices, WritesBeginning};
 ghost use Rattle.fs_sched.specs.Runs.{calls_in};
-ghost use Rattle.fs_sched.specs.code.Done.{IsStop};
+ghost use Rattle.fs_sched.specs.Origins.{CanBegin, LacksRun};
+ghost use Rattle.fs_sched.specs.code.Done.{IsStop, IsStopOn};
 ghost use Rattle.fs_trace.specs.declared.fault.ScheduleFault.TheVariants as schedule;
 ghost use Rattle.fs_sched_find.specs.Faults.{LacksRoom};
-ghost use Rattle.fs_sched_find.specs.Finds.{RunHas, IsFoundWhere, IsSearchOf, IsWritten, LacksCall};
+ghost use Rattle.fs_sched_find.specs.Finds.{RunHas, RunHasOn, IsFoundOn, IsSearchOf, IsWritten, LacksCall};
 ghost use Rattle.fs_sched_find.specs.code.Mades.{IsNotWritten, MakesFound};
 
 use crate::fault::FindFault;
 use crate::having::has;
 use crate::lives::Lives;
 use crate::what::{Clauses, names_calls};
-use fs_sched::{RunFault, SEED_LIMIT, Schedule, Witness, between, script_in, watch};
+use fs_sched::{Origin, RunFault, SEED_LIMIT, Schedule, Witness, between, script_in, watch_at};
 use fs_script::Script;
 use fs_trace::{ScheduleFault, schedule_bytes};
 use fs_verdict::{Made, Sink, Source, transform};
@@ -26,7 +27,32 @@ use std::alloc::Global;
 /// The most drawn runs that are searched.
 pub const SEARCH_LIMIT: u64 = 1_000_000;
 
-/// Whether the run of a script by a schedule has what is said. What is said of a call that is not there is false.
+/// Whether the run of a script by a schedule from a tree, or from the root alone, has what is said. What is said of a call that is not
+/// there is false.
+pub fn run_has_at(
+    alloc: Global,
+    from: &Origin,
+    script: &Script,
+    schedule: Schedule,
+    what: &[Clauses],
+) -> Result<bool, RunFault>
+    requires few { calls_in script.now.lists ≤ call_limit script.now.limits }
+    requires begins { CanBegin from.now script.now.limits }
+    ensures has { IfOk result (RunHasOn from.now schedule script.now what.now) }
+    ensures fault { IfErr result (IsStopOn from.now schedule script.now) }
+{
+    let mut lives = Lives::new(alloc);
+    let ran = match watch_at(alloc, from, script, schedule, &mut lives) {
+        Ok(ran) => ran,
+        Err(fault) => return Err(fault),
+    };
+    match has(alloc, &script.names, &lives, ran.core.store(), what) {
+        Ok(has) => Ok(has),
+        Err(_) => Err(RunFault::OutOfMemory),
+    }
+}
+
+/// The same from the root alone.
 pub fn run_has(
     alloc: Global,
     script: &Script,
@@ -37,21 +63,14 @@ pub fn run_has(
     ensures has { IfOk result (RunHas schedule script.now what.now) }
     ensures fault { IfErr result (IsStop schedule script.now) }
 {
-    let mut lives = Lives::new(alloc);
-    let ran = match watch(alloc, script, schedule, &mut lives) {
-        Ok(ran) => ran,
-        Err(fault) => return Err(fault),
-    };
-    match has(alloc, &script.names, &lives, ran.core.store(), what) {
-        Ok(has) => Ok(has),
-        Err(_) => Err(RunFault::OutOfMemory),
-    }
+    run_has_at(alloc, &Origin::Root, script, schedule, what)
 }
 
-/// The first of so many numbers from which a run is drawn that is as wanted: it has what is said, or has it not. What is said of a
-/// call that is not there is false. Whoever is told of progress hears of each run before.
+/// The first of so many numbers from which a run from a tree, or from the root alone, is drawn that is as wanted: it has what is said,
+/// or has it not. What is said of a call that is not there is false. Whoever is told of progress hears of each run before.
 pub fn first_seed<Listener: Witness>(
     alloc: Global,
+    from: &Origin,
     script: &Script,
     what: &[Clauses],
     wanted: bool,
@@ -60,13 +79,14 @@ pub fn first_seed<Listener: Witness>(
     witness: &mut Listener,
 ) -> Result<Option<u64>, RunFault>
     requires few { calls_in script.now.lists ≤ call_limit script.now.limits }
+    requires begins { CanBegin from.now script.now.limits }
     requires seed { seed ≤ SEED_LIMIT }
     requires runs { runs ≤ SEARCH_LIMIT }
-    ensures found { IfOk result (IsFoundWhere wanted script.now what.now seed runs) }
-    ensures fault { IfErr result (λ fault. fault ≡ RunFault.OutOfMemory) }
+    ensures found { IfOk result (IsFoundOn from.now wanted script.now what.now seed runs) }
+    ensures fault { IfErr result (LacksRun from.now script.now seed runs) }
 {
     for run in 0..runs {
-        let has = match run_has(alloc, script, Schedule::Seeded(seed + run), what) {
+        let has = match run_has_at(alloc, from, script, Schedule::Seeded(seed + run), what) {
             Ok(has) => has,
             Err(fault) => return Err(fault),
         };
@@ -106,7 +126,19 @@ fn found_in<Listener: Witness>(
     if !names_calls(&script, what) {
         return Err(FindFault::NoCall);
     }
-    let found = first_seed(alloc, &script, what, true, seed, runs, witness)?;
+    let found = match first_seed(
+        alloc,
+        &Origin::Root,
+        &script,
+        what,
+        true,
+        seed,
+        runs,
+        witness,
+    ) {
+        Ok(found) => found,
+        Err(fault) => return Err(FindFault::Schedule(ScheduleFault::Run(fault))),
+    };
     drop(script);
     match text_of_found(alloc, text, found) {
         Ok(text) => Ok(Made { text, end: found }),

@@ -92,7 +92,11 @@ fn push_found(
 }
 
 /// The object of what was found.
-fn object_of(alloc: Global, found: Option<u64>, script: &[u8]) -> Result<Vec<u8>, AllocError>
+pub(crate) fn object_of(
+    alloc: Global,
+    found: Option<u64>,
+    script: &[u8],
+) -> Result<Vec<u8>, AllocError>
     ensures { IfOk result (λ text. text.items ≡ found_text found script.now) }
 {
     let mut text = Addition::new(Vec::new(alloc));

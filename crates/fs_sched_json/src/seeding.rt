@@ -51,7 +51,7 @@ fn push_seed(seed: u64, text: &mut Addition) -> Result<(), AllocError>
 }
 
 /// The objects of so many lawful runs.
-fn objects_of(alloc: Global, seed: u64, runs: u64) -> Result<Vec<u8>, AllocError>
+pub(crate) fn objects_of(alloc: Global, seed: u64, runs: u64) -> Result<Vec<u8>, AllocError>
     requires seed { seed ≤ SEED_LIMIT }
     requires runs { runs ≤ RUN_LIMIT }
     ensures { IfOk result (λ text. text.items ≡ flat_map seed_text (range_with_len seed runs)) }

@@ -5,9 +5,10 @@ use Rattle.std.proofs.lemmas.List.Elements.{All-contains, All-from_recursion, re
 use Rattle.std.proofs.lemmas.List.Sorted.{All-permutation, list_any-IsPermutation, sum_by-IsPermutation}
 use Rattle.std.proofs.lemmas.Map.Keys.{IsDistinct-IsPermutation}
 use Rattle.fs_script.specs.declared.script.Script.{Script}
+use Rattle.fs_sched.specs.declared.origin.Origin.{Origin}
 use Rattle.fs_sched_outcomes.specs.Ends.{EndValue, places_of}
 use Rattle.fs_sched_outcomes.specs.Lines.{labels_of, rows_text}
-use Rattle.fs_sched_outcomes.specs.Outcomes.{EndsAs, IsOfItsRun, AreDrawn, AreLinesOf}
+use Rattle.fs_sched_outcomes.specs.Outcomes.{EndsOn, IsOfItsRun, AreDrawn, AreLinesOn}
 use Rattle.fs_sched_outcomes.specs.Sums.{same_end, times_of, IsSum, IsAmongEnds, AddsUp, AreInOrder}
 use Rattle.fs_sched_outcomes.specs.code.Adding.{with_row}
 use Rattle.fs_sched_outcomes.specs.code.Mades.{single, AddsRun, HasRuns}
@@ -17,17 +18,17 @@ use Rattle.fs_sched_outcomes.proofs.AddLemmas.{adds_none, adds_more, same_flip, 
 
 -- ---- one run more
 
-drawn_more : (script : Script) (n : ℕ) (drawn : List Row) (m : ℕ) (end : EndValue) → m ≡ n + length drawn → AreDrawn script n drawn → EndsAs script m end → AreDrawn script n (drawn ++ single m end ∷ [])
-drawn_more script n [] m end is all ends = (refl, (let z : m ≡ n + 0 = is in omega (arith, z)), ends, tt)
-drawn_more script n (row ∷ rows) m end is all ends =
+drawn_more : (at : Origin) (script : Script) (n : ℕ) (drawn : List Row) (m : ℕ) (end : EndValue) → m ≡ n + length drawn → AreDrawn at script n drawn → EndsOn at script m end → AreDrawn at script n (drawn ++ single m end ∷ [])
+drawn_more at script n [] m end is all ends = (refl, (let z : m ≡ n + 0 = is in omega (arith, z)), ends, tt)
+drawn_more at script n (row ∷ rows) m end is all ends =
     let z : m ≡ n + suc (length rows) = is in
-    (all.0, all.1, all.2, drawn_more script (n + 1) rows m end (omega (arith, z)) all.3 ends)
+    (all.0, all.1, all.2, drawn_more at script (n + 1) rows m end (omega (arith, z)) all.3 ends)
 
-pub runs_none : (script : Script) (n : ℕ) → HasRuns script n 0 []
-runs_none script n = record { drawn = []; are_drawn = tt; count = refl; adds_up = adds_none; total = refl }
+pub runs_none : (at : Origin) (script : Script) (n : ℕ) → HasRuns at script n 0 []
+runs_none at script n = record { drawn = []; are_drawn = tt; count = refl; adds_up = adds_none; total = refl }
 
-pub runs_more : (script : Script) (n runs : ℕ) (old new : List Row) → HasRuns script n runs old → AddsRun script (n + runs) old new → HasRuns script n (runs + 1) new
-runs_more script n runs old new has (end, ends, is) =
+pub runs_more : (at : Origin) (script : Script) (n runs : ℕ) (old new : List Row) → HasRuns at script n runs old → AddsRun at script (n + runs) old new → HasRuns at script n (runs + 1) new
+runs_more at script n runs old new has (end, ends, is) =
     let g = single (n + runs) end in
     let len : length (has.drawn ++ g ∷ []) ≡ length has.drawn + 1 = length-append has.drawn (g ∷ []) in
     let count = has.count in
@@ -35,7 +36,7 @@ runs_more script n runs old new has (end, ends, is) =
     let total = has.total in
     record {
       drawn = has.drawn ++ g ∷ [];
-      are_drawn = drawn_more script n has.drawn (n + runs) end (omega (arith, count)) has.are_drawn ends;
+      are_drawn = drawn_more at script n has.drawn (n + runs) end (omega (arith, count)) has.are_drawn ends;
       count = omega (arith, len, count);
       adds_up = subst (λ rows. AddsUp (has.drawn ++ g ∷ []) rows) (sym is) (adds_more has.drawn old g has.adds_up);
       total = ap (λ rows. sum_by times_of rows) is ∙ (omega (arith, sum, total));
@@ -60,22 +61,22 @@ sums_order given rows others moved a = record {
 
 -- ---- of what runs they are
 
-drawn_each : (script : Script) (n : ℕ) (drawn : List Row) → AreDrawn script n drawn → AllByRecursion (IsOfItsRun script) drawn
-drawn_each script n [] all = tt
-drawn_each script n (row ∷ rows) all = (all.2, drawn_each script (n + 1) rows all.3)
+drawn_each : (at : Origin) (script : Script) (n : ℕ) (drawn : List Row) → AreDrawn at script n drawn → AllByRecursion (IsOfItsRun at script) drawn
+drawn_each at script n [] all = tt
+drawn_each at script n (row ∷ rows) all = (all.2, drawn_each at script (n + 1) rows all.3)
 
-of_sum : (script : Script) (drawn : List Row) (row : Row) → AllByRecursion (IsOfItsRun script) drawn → IsSum drawn row → IsOfItsRun script row
-of_sum script drawn row all s =
-    let one : IsOfItsRun script s.one = All-contains (IsOfItsRun script) drawn s.one (All-from_recursion (IsOfItsRun script) drawn all) s.among in
-    subst (λ n. EndsAs script n row.end) (sym s.seed) (subst (λ e. EndsAs script s.one.seed e) (sym s.end) one)
+of_sum : (at : Origin) (script : Script) (drawn : List Row) (row : Row) → AllByRecursion (IsOfItsRun at script) drawn → IsSum drawn row → IsOfItsRun at script row
+of_sum at script drawn row all s =
+    let one : IsOfItsRun at script s.one = All-contains (IsOfItsRun at script) drawn s.one (All-from_recursion (IsOfItsRun at script) drawn all) s.among in
+    subst (λ n. EndsOn at script n row.end) (sym s.seed) (subst (λ e. EndsOn at script s.one.seed e) (sym s.end) one)
 
-of_sums : (script : Script) (drawn rows : List Row) → AllByRecursion (IsOfItsRun script) drawn → AllByRecursion (IsSum drawn) rows → AllByRecursion (IsOfItsRun script) rows
-of_sums script drawn [] all each = tt
-of_sums script drawn (row ∷ rows) all each = (of_sum script drawn row all each.0, of_sums script drawn rows all each.1)
+of_sums : (at : Origin) (script : Script) (drawn rows : List Row) → AllByRecursion (IsOfItsRun at script) drawn → AllByRecursion (IsSum drawn) rows → AllByRecursion (IsOfItsRun at script) rows
+of_sums at script drawn [] all each = tt
+of_sums at script drawn (row ∷ rows) all each = (of_sum at script drawn row all each.0, of_sums at script drawn rows all each.1)
 
-pub lines_made : (script : Script) (n runs : ℕ) (form : Form) (rows ordered : List Row) (text : List ℕ) → HasRuns script n runs rows → IsPermutation rows ordered → AreInOrder ordered
-    → text ≡ rows_text form (labels_of script.names (places_of script.lists)) ordered → AreLinesOf script n runs form text
-lines_made script n runs form rows ordered text has moved order is =
+pub lines_made : (at : Origin) (script : Script) (n runs : ℕ) (form : Form) (rows ordered : List Row) (text : List ℕ) → HasRuns at script n runs rows → IsPermutation rows ordered → AreInOrder ordered
+    → text ≡ rows_text form (labels_of script.names (places_of script.lists)) ordered → AreLinesOn at script n runs form text
+lines_made at script n runs form rows ordered text has moved order is =
     let sums = sums_order has.drawn rows ordered moved has.adds_up in (
       ordered,
       record {
@@ -83,7 +84,7 @@ lines_made script n runs form rows ordered text has moved order is =
         are_drawn = has.are_drawn;
         count = has.count;
         adds_up = sums;
-        of_runs = of_sums script has.drawn ordered (drawn_each script n has.drawn has.are_drawn) sums.each;
+        of_runs = of_sums at script has.drawn ordered (drawn_each at script n has.drawn has.are_drawn) sums.each;
         total = sum_by-IsPermutation times_of rows ordered moved ∙ has.total;
         order = order;
       },

@@ -1,16 +1,12 @@
--- A drawn run stops for want of memory alone.
-use Rattle.std.proofs.Common.{ℕ, ◌≡◌, refl}
+-- Runs from the root alone: only memory can be wanting.
+use Rattle.std.proofs.Common.{ℕ, List, sym, subst}
+use Rattle.fs_script.specs.Script.{script_of}
 use Rattle.fs_script.specs.declared.script.Script.{Script}
-use Rattle.fs_sched.specs.code.Done.{IsStop}
-use Rattle.fs_sched.specs.declared.schedule.Schedule.TheVariants.{Seeded}
-use Rattle.fs_sched.proofs.Drawn.{never_under_way}
+use Rattle.fs_sched.specs.Devices.{IsFaultOf}
+use Rattle.fs_sched.specs.Origins.{LacksRun}
+use Rattle.fs_sched.specs.declared.origin.Origin.TheVariants.{Root}
+use Rattle.fs_sched.proofs.Origins.{only_memory}
 use Rattle.fs_verdict.specs.declared.fault.RunFault.{RunFault}
-use Rattle.fs_verdict.specs.declared.fault.RunFault.TheVariants as faults
 
-pub only_memory : (n : ℕ) (script : Script) (fault : RunFault) → IsStop (Seeded n) script fault → fault ≡ faults.OutOfMemory
-only_memory n script (faults.Input f) stop = absurd stop
-only_memory n script faults.Read stop = absurd stop
-only_memory n script faults.Write stop = absurd stop
-only_memory n script faults.OutOfMemory stop = refl
-only_memory n script faults.Full stop = absurd stop
-only_memory n script (faults.UnderWay c) stop = absurd (never_under_way n script c stop)
+pub root_fault : (input : List ℕ) (script : Script) (seed runs : ℕ) (fault : RunFault) → LacksRun Root script seed runs fault → IsFaultOf (script_of input) fault
+root_fault input script seed runs fault lacks = subst (IsFaultOf (script_of input)) (sym (only_memory script seed runs fault lacks)) tt

@@ -4,4 +4,5 @@ pub mod Outcomes
 pub mod Lines
 pub mod Added
 pub mod Asserts
+pub mod Faults
 pub mod code

@@ -6,17 +6,18 @@ ghost use Rattle.fs_words.specs.declared.fault.ScriptFault.{ScriptFault};
 ghost use Rattle.fs_script.specs.Script.{script_of};
 ghost use Rattle.fs_script.specs.Limits.{call_limit};
 ghost use Rattle.fs_sched.specs.Devices.{KeepsDevices, WritesBeginning};
+ghost use Rattle.fs_sched.specs.Origins.{CanBegin, LacksRun};
 ghost use Rattle.fs_sched.specs.Runs.{calls_in};
 ghost use Rattle.fs_sched.specs.declared.seeding.TheConstants.{SEED_LIMIT};
 ghost use Rattle.fs_sched_outcomes.specs.declared.running.TheConstants.{OUTCOME_LIMIT};
 ghost use Rattle.fs_trace.specs.declared.fault.ScheduleFault.TheVariants as schedule;
-ghost use Rattle.fs_sched_outcomes.specs.Asserts.{name_calls, AreAsserted, AreDecided, IsDecided, LacksCalls};
+ghost use Rattle.fs_sched_outcomes.specs.Asserts.{name_calls, AreAsserted, AreDecidedOn, IsDecidedOn, LacksCalls};
 ghost use Rattle.fs_sched_outcomes.specs.code.Assertings.{MakesAsserted};
 
 use crate::assertion::Assertion;
 use crate::lines::Form;
 use crate::running::outcomes_of;
-use fs_sched::{RunFault, Witness, between, script_in};
+use fs_sched::{Origin, RunFault, Witness, between, script_in};
 use fs_sched_find::{FindFault, first_seed, names_calls};
 use fs_script::Script;
 use fs_trace::ScheduleFault;
@@ -24,7 +25,7 @@ use fs_verdict::{Made, Sink, Source, transform};
 use std::alloc::Global;
 
 /// Whether a script has each call that assertions name.
-fn name_calls(script: &Script, asserts: &[Assertion<'_>]) -> bool
+pub(crate) fn name_calls(script: &Script, asserts: &[Assertion<'_>]) -> bool
     ensures { result ≡ name_calls script.now asserts.now }
 {
     asserts
@@ -35,6 +36,7 @@ fn name_calls(script: &Script, asserts: &[Assertion<'_>]) -> bool
 /// The first of so many runs that decides an assertion, if one does.
 fn decided<Listener: Witness>(
     alloc: Global,
+    from: &Origin,
     script: &Script,
     assertion: &Assertion<'_>,
     seed: u64,
@@ -42,13 +44,23 @@ fn decided<Listener: Witness>(
     witness: &mut Listener,
 ) -> Result<Option<u64>, RunFault>
     requires few { calls_in script.now.lists ≤ call_limit script.now.limits }
+    requires begins { CanBegin from.now script.now.limits }
     requires seed { seed ≤ SEED_LIMIT }
     requires runs { runs ≤ OUTCOME_LIMIT }
-    ensures decided { IfOk result (IsDecided script.now seed runs assertion.now) }
-    ensures fault { IfErr result (λ fault. fault ≡ RunFault.OutOfMemory) }
+    ensures decided { IfOk result (IsDecidedOn from.now script.now seed runs assertion.now) }
+    ensures fault { IfErr result (LacksRun from.now script.now seed runs) }
 {
     let wanted = assertion.quantifier.deciding();
-    first_seed(alloc, script, &assertion.what, wanted, seed, runs, witness)
+    first_seed(
+        alloc,
+        from,
+        script,
+        &assertion.what,
+        wanted,
+        seed,
+        runs,
+        witness,
+    )
 }
 
 fn push_decided(one: Option<u64>, all: &mut Vec<Option<u64>>) -> Result<(), RunFault>
@@ -62,8 +74,9 @@ fn push_decided(one: Option<u64>, all: &mut Vec<Option<u64>>) -> Result<(), RunF
 }
 
 /// The same of each.
-fn all_decided<Listener: Witness>(
+pub(crate) fn all_decided<Listener: Witness>(
     alloc: Global,
+    from: &Origin,
     script: &Script,
     asserts: &[Assertion<'_>],
     seed: u64,
@@ -71,14 +84,15 @@ fn all_decided<Listener: Witness>(
     witness: &mut Listener,
 ) -> Result<Vec<Option<u64>>, RunFault>
     requires few { calls_in script.now.lists ≤ call_limit script.now.limits }
+    requires begins { CanBegin from.now script.now.limits }
     requires seed { seed ≤ SEED_LIMIT }
     requires runs { runs ≤ OUTCOME_LIMIT }
-    ensures decided { IfOk result (λ all. AreDecided script.now seed runs asserts.now all.items) }
-    ensures fault { IfErr result (λ fault. fault ≡ RunFault.OutOfMemory) }
+    ensures decided { IfOk result (λ all. AreDecidedOn from.now script.now seed runs asserts.now all.items) }
+    ensures fault { IfErr result (LacksRun from.now script.now seed runs) }
 {
     let mut all = Vec::new(alloc);
     for assertion in asserts {
-        let one = match decided(alloc, script, assertion, seed, runs, witness) {
+        let one = match decided(alloc, from, script, assertion, seed, runs, witness) {
             Ok(one) => one,
             Err(fault) => return Err(fault),
         };
@@ -105,8 +119,15 @@ fn asserted_in<Listener: Witness>(
     if !name_calls(&script, asserts) {
         return Err(FindFault::NoCall);
     }
-    let decided = all_decided(alloc, &script, asserts, seed, runs, witness)?;
-    let made = outcomes_of(alloc, &script, seed, runs, form, witness)?;
+    let from = Origin::Root;
+    let decided = match all_decided(alloc, &from, &script, asserts, seed, runs, witness) {
+        Ok(decided) => decided,
+        Err(fault) => return Err(FindFault::Schedule(ScheduleFault::Run(fault))),
+    };
+    let made = match outcomes_of(alloc, &from, &script, seed, runs, form, witness) {
+        Ok(made) => made,
+        Err(fault) => return Err(FindFault::Schedule(ScheduleFault::Run(fault))),
+    };
     Ok(Made {
         text: made.text,
         end: decided,

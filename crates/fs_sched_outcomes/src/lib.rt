@@ -7,6 +7,7 @@
 //!
 //! `assert_outcomes` decides each `Assertion` by these runs, and writes the same lines. For each assertion it answers the first run that
 //! decides it: one that breaks `never` or `always`, or one that `sometimes` asks for. `read_assertion` reads an assertion from words.
+//! `outcomes_from` does the same with runs from a tree.
 //!
 //! The definitions are in `specs/`. `Ends` says what the end of a run is, and `Sums` and `Added` how rows add up others. `Outcomes` has
 //! the rows of drawn runs, and `Lines` how rows are written. `Asserts` says what an assertion says of runs; the module `laws` has what
@@ -17,6 +18,8 @@ mod adding;
 mod asserting;
 mod assertion;
 mod ends;
+mod fault;
+mod from_tree;
 mod heard;
 pub mod laws;
 mod lines;
@@ -29,6 +32,8 @@ pub use adding::add_outcomes;
 pub use asserting::assert_outcomes;
 pub use assertion::{Assertion, Quantifier, all_hold, read_assertion};
 pub use ends::End;
+pub use fault::OutcomesFault;
+pub use from_tree::outcomes_from;
 pub use lines::Form;
 pub use places::Place;
 pub use rows::Row;

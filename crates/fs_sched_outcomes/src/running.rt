@@ -7,9 +7,10 @@ ghost use Rattle.fs_words.specs.declared.fault.ScriptFault.{ScriptFault};
 ghost use Rattle.fs_script.specs.Script.{script_of};
 ghost use Rattle.fs_script.specs.Limits.{call_limit};
 ghost use Rattle.fs_sched.specs.Devices.{KeepsDevices, WritesBeginning};
+ghost use Rattle.fs_sched.specs.Origins.{CanBegin, HasNoRun, LacksRun};
 ghost use Rattle.fs_sched.specs.Runs.{calls_in};
 ghost use Rattle.fs_sched_outcomes.specs.Ends.{places_of};
-ghost use Rattle.fs_sched_outcomes.specs.Outcomes.{AreLinesOf, AreOutcomesOf, EndsAs};
+ghost use Rattle.fs_sched_outcomes.specs.Outcomes.{AreLinesOn, AreOutcomesOf, EndsOn};
 ghost use Rattle.fs_sched_outcomes.specs.Sums.{times_of};
 ghost use Rattle.fs_sched_outcomes.specs.code.Adding.{AreKept};
 ghost use Rattle.fs_sched_outcomes.specs.code.Mades.{AddsRun, HasRuns, MakesOutcomes};
@@ -18,7 +19,9 @@ use crate::ends::{End, end_of};
 use crate::lines::{Form, labels_of, rows_text};
 use crate::places::{Place, places_of};
 use crate::rows::{Row, Rows};
-use fs_sched::{RunFault, SEED_LIMIT, Schedule, Silent, Witness, between, script_in, watch};
+use fs_sched::{
+    Origin, RunFault, SEED_LIMIT, Schedule, Silent, Witness, between, script_in, watch_at,
+};
 use fs_script::Script;
 use fs_verdict::{Made, Sink, Source, transform};
 use std::alloc::{AllocError, Global};
@@ -27,13 +30,20 @@ use std::alloc::{AllocError, Global};
 pub const OUTCOME_LIMIT: u64 = 1_000_000;
 
 /// The end of the run that is drawn from a number.
-fn drawn_end(alloc: Global, script: &Script, places: &[Place], seed: u64) -> Result<End, RunFault>
+fn drawn_end(
+    alloc: Global,
+    from: &Origin,
+    script: &Script,
+    places: &[Place],
+    seed: u64,
+) -> Result<End, RunFault>
     requires few { calls_in script.now.lists ≤ call_limit script.now.limits }
+    requires begins { CanBegin from.now script.now.limits }
     requires places { places.now ≡ places_of script.now.lists }
-    ensures end { IfOk result (EndsAs script.now seed) }
-    ensures fault { IfErr result (λ fault. fault ≡ RunFault.OutOfMemory) }
+    ensures end { IfOk result (EndsOn from.now script.now seed) }
+    ensures fault { IfErr result (HasNoRun from.now script.now seed) }
 {
-    let ran = match watch(alloc, script, Schedule::Seeded(seed), &mut Silent) {
+    let ran = match watch_at(alloc, from, script, Schedule::Seeded(seed), &mut Silent) {
         Ok(ran) => ran,
         Err(fault) => return Err(fault),
     };
@@ -46,20 +56,22 @@ fn drawn_end(alloc: Global, script: &Script, places: &[Place], seed: u64) -> Res
 /// Adds the end of the run that is drawn from a number.
 fn add_run(
     alloc: Global,
+    from: &Origin,
     script: &Script,
     places: &[Place],
     seed: u64,
     rows: &mut Rows,
 ) -> Result<(), RunFault>
     requires few { calls_in script.now.lists ≤ call_limit script.now.limits }
+    requires begins { CanBegin from.now script.now.limits }
     requires places { places.now ≡ places_of script.now.lists }
     requires kept { AreKept rows.old }
     requires room { sum_by times_of rows.old.rows.items + 1 < 2 ^ 64 }
     ensures kept { OnOk result (AreKept rows.new) }
-    ensures row { OnOk result (AddsRun script.now seed rows.old.rows.items rows.new.rows.items) }
-    ensures fault { IfErr result (λ fault. fault ≡ RunFault.OutOfMemory) }
+    ensures row { OnOk result (AddsRun from.now script.now seed rows.old.rows.items rows.new.rows.items) }
+    ensures fault { IfErr result (HasNoRun from.now script.now seed) }
 {
-    let end = drawn_end(alloc, script, places, seed)?;
+    let end = drawn_end(alloc, from, script, places, seed)?;
     let row = Row {
         times: 1,
         seed,
@@ -74,6 +86,7 @@ fn add_run(
 /// The ends of so many runs, drawn from a number, the next one, and so on.
 fn add_runs<Listener: Witness>(
     alloc: Global,
+    from: &Origin,
     script: &Script,
     places: &[Place],
     seed: u64,
@@ -81,15 +94,16 @@ fn add_runs<Listener: Witness>(
     witness: &mut Listener,
 ) -> Result<Rows, RunFault>
     requires few { calls_in script.now.lists ≤ call_limit script.now.limits }
+    requires begins { CanBegin from.now script.now.limits }
     requires places { places.now ≡ places_of script.now.lists }
     requires seed { seed ≤ SEED_LIMIT }
     requires runs { runs ≤ OUTCOME_LIMIT }
-    ensures rows { IfOk result (λ rows. HasRuns script.now seed runs rows.rows.items) }
-    ensures fault { IfErr result (λ fault. fault ≡ RunFault.OutOfMemory) }
+    ensures rows { IfOk result (λ rows. HasRuns from.now script.now seed runs rows.rows.items) }
+    ensures fault { IfErr result (LacksRun from.now script.now seed runs) }
 {
     let mut rows = Rows::new(alloc);
     for run in 0..runs {
-        add_run(alloc, script, places, seed + run, &mut rows)?;
+        add_run(alloc, from, script, places, seed + run, &mut rows)?;
         witness.has_run(run + 1, runs);
     }
     Ok(rows)
@@ -104,7 +118,7 @@ fn lines_of(
     form: Form,
 ) -> Result<Vec<u8>, AllocError>
     requires { places.now ≡ places_of script.now.lists }
-    ensures { (seed runs : ℕ) → HasRuns script.now seed runs rows.rows.items → IfOk result (λ text. AreLinesOf script.now seed runs form text.items) }
+    ensures { (from : Origin) (seed runs : ℕ) → HasRuns from script.now seed runs rows.rows.items → IfOk result (λ text. AreLinesOn from script.now seed runs form text.items) }
 {
     let labels = labels_of(alloc, &script.names, places)?;
     let rows = rows.in_order()?;
@@ -112,9 +126,10 @@ fn lines_of(
     Ok(text)
 }
 
-/// The lines of the ends of a script's drawn runs, of which there are so many from a number on.
+/// The lines of the ends of a script's drawn runs from a tree, or from the root alone, of which there are so many from a number on.
 pub fn outcomes_of<Listener: Witness>(
     alloc: Global,
+    from: &Origin,
     script: &Script,
     seed: u64,
     runs: u64,
@@ -122,22 +137,23 @@ pub fn outcomes_of<Listener: Witness>(
     witness: &mut Listener,
 ) -> Result<Made<()>, RunFault>
     requires few { calls_in script.now.lists ≤ call_limit script.now.limits }
+    requires begins { CanBegin from.now script.now.limits }
     requires seed { seed ≤ SEED_LIMIT }
     requires runs { runs ≤ OUTCOME_LIMIT }
-    ensures lines { IfOk result (λ made. AreLinesOf script.now seed runs form made.text.items) }
-    ensures fault { IfErr result (λ fault. fault ≡ RunFault.OutOfMemory) }
+    ensures lines { IfOk result (λ made. AreLinesOn from.now script.now seed runs form made.text.items) }
+    ensures fault { IfErr result (LacksRun from.now script.now seed runs) }
 {
     let Ok(places) = places_of(alloc, &script.lists) else {
         return Err(RunFault::OutOfMemory);
     };
-    let rows = add_runs(alloc, script, &places, seed, runs, witness)?;
+    let rows = add_runs(alloc, from, script, &places, seed, runs, witness)?;
     match lines_of(alloc, script, &places, rows, form) {
         Ok(text) => Ok(Made { text, end: () }),
         Err(_) => Err(RunFault::OutOfMemory),
     }
 }
 
-/// The same of the script that a text has, which is let go once it is read.
+/// The same from the root alone, of the script that a text has, which is let go once it is read.
 fn outcomes_in<Listener: Witness>(
     alloc: Global,
     text: Vec<u8>,
@@ -152,7 +168,7 @@ fn outcomes_in<Listener: Witness>(
 {
     let script = script_in(alloc, text.as_slice())?;
     drop(text);
-    outcomes_of(alloc, &script, seed, runs, form, witness)
+    outcomes_of(alloc, &Origin::Root, &script, seed, runs, form, witness)
 }
 
 /// Reads a script to its end, runs it so many times, by the threads that are drawn from a number, the next one, and so on, and

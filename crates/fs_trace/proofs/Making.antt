@@ -6,18 +6,22 @@ use Rattle.fs_script.specs.Script.{script_of}
 use Rattle.fs_script.specs.declared.script.Script.{Script}
 use Rattle.std.specs.Prelude.{Ok}
 use Rattle.fs_sched.specs.Watching.{Watches}
-use Rattle.fs_sched.specs.Moments.{TellsRun}
+use Rattle.fs_sched.specs.Origins.{TellsOn}
 use Rattle.fs_sched.specs.Runs.{Stage}
+use Rattle.fs_sched.specs.code.Done.{IsStopOn}
+use Rattle.fs_sched.specs.declared.origin.Origin.{Origin}
+use Rattle.fs_sched.specs.declared.origin.Origin.TheVariants.{Root, Tree}
 use Rattle.fs_sched.specs.declared.schedule.Schedule.{Schedule}
 use Rattle.fs_sched.specs.declared.watching.Ran.{Ran}
 use Rattle.fs_trace_story.specs.code.Waiting.{GoesOn, HasShown}
 use Rattle.fs_trace_story.specs.declared.story.Teller.{Teller}
+use Rattle.fs_sched.proofs.Reasons.{of_stop}
 use Rattle.fs_trace.specs.Faults.{IsFaultOfSchedule}
 use Rattle.fs_trace_story.specs.Shown.{Saying}
 use Rattle.fs_trace.specs.Objects.{AreObjectsOf, IsObjectText}
 use Rattle.fs_trace.specs.Traces.{IsTraceOf, IsTraceText}
 use Rattle.fs_trace.specs.code.LineTexts.{HasLines}
-use Rattle.fs_trace.specs.code.Mades.{IsNotHandedOut}
+use Rattle.fs_trace.specs.code.Mades.{IsFaultOfScheduleOn, IsNotHandedOut}
 use Rattle.fs_trace.specs.code.ObjectTexts.{HasObjects}
 use Rattle.fs_trace.specs.declared.fault.ScheduleFault.{ScheduleFault}
 use Rattle.fs_trace.specs.declared.fault.ScheduleFault.TheVariants.{Run, TooManyEvents, TooLong}
@@ -57,13 +61,23 @@ objects_made schedule every text made script old new ran is w objects = (
   subst (λ (s : State). IsObjectText every script.names w.moments s made) (sym w.core) objects,
 )
 
+no_memory : (from : Origin) (schedule : Schedule) (script : Script) → IsStopOn from schedule script run.OutOfMemory
+no_memory Root schedule script = tt
+no_memory (Tree tree) schedule script = tt
+
 -- a script that was not handed out, with the moments of a run as its words
-pub not_made : (schedule : Schedule) (input : List ℕ) (script : Script) (ms : List Moment) (last : Stage) (fault : ScheduleFault) → script_of input ≡ Ok script → TellsRun schedule script ms last → IsNotHandedOut input script.names ms fault → IsFaultOfSchedule schedule input fault
-not_made schedule input script ms last (Run (run.Input f)) is tells none = absurd none
-not_made schedule input script ms last (Run run.Read) is tells none = absurd none
-not_made schedule input script ms last (Run run.Write) is tells none = absurd none
-not_made schedule input script ms last (Run run.OutOfMemory) is tells none = tt
-not_made schedule input script ms last (Run run.Full) is tells none = absurd none
-not_made schedule input script ms last (Run (run.UnderWay c)) is tells none = absurd none
-not_made schedule input script ms last TooManyEvents is tells none = absurd none
-not_made schedule input script ms last TooLong is tells (text, written, long) = (text, (script, is, ms, last, tells, written), long)
+pub not_made : (from : Origin) (schedule : Schedule) (input : List ℕ) (script : Script) (ms : List Moment) (last : Stage) (fault : ScheduleFault) → TellsOn from schedule script ms last → IsNotHandedOut input script.names ms fault → IsFaultOfScheduleOn from schedule script input fault
+not_made from schedule input script ms last (Run (run.Input f)) tells none = absurd none
+not_made from schedule input script ms last (Run run.Read) tells none = absurd none
+not_made from schedule input script ms last (Run run.Write) tells none = absurd none
+not_made from schedule input script ms last (Run run.OutOfMemory) tells none = no_memory from schedule script
+not_made from schedule input script ms last (Run run.Full) tells none = absurd none
+not_made from schedule input script ms last (Run (run.UnderWay c)) tells none = absurd none
+not_made from schedule input script ms last TooManyEvents tells none = absurd none
+not_made from schedule input script ms last TooLong tells (text, written, long) = (text, (ms, last, tells, written), long)
+
+-- from the root alone a fault is that of the script which an input has
+pub of_root : (schedule : Schedule) (input : List ℕ) (script : Script) (fault : ScheduleFault) → script_of input ≡ Ok script → IsFaultOfScheduleOn Root schedule script input fault → IsFaultOfSchedule schedule input fault
+of_root schedule input script (Run fault) is stop = of_stop schedule input script fault is stop
+of_root schedule input script TooManyEvents is many = (script, is, many)
+of_root schedule input script TooLong is (text, written, long) = (text, (script, is, written), long)

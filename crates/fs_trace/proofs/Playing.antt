@@ -1,11 +1,12 @@
 -- The moments of a run, and the run that its words give.
-use Rattle.std.proofs.Common.{◌≡◌, ℕ, zero, suc, ◌+◌, ◌<◌, ◌≤◌, ltb, Bool, true, false, List, [], ◌∷◌, ◌++◌, length, replicate, Option, Some, None, Ok, refl, sym, ap, subst, ◌∙◌, append-nil, arith}
+use Rattle.std.proofs.Common.{◌≡◌, ℕ, zero, suc, ◌+◌, ◌<◌, ◌≤◌, ltb, Bool, true, false, List, [], ◌∷◌, ◌++◌, length, replicate, Option, Some, None, Result, Ok, refl, sym, ap, subst, ◌∙◌, append-nil, arith}
 use Rattle.std.specs.List.{list_any}
 use Rattle.std.proofs.lemmas.Bool.{ltb-true, ltb-false}
 use Rattle.std.proofs.lemmas.Grind.{flat_map-append}
 use Rattle.fs_calls.specs.declared.call.Call.{Call}
 use Rattle.fs_timeline.specs.declared.entry.Entry.{Entry}
 use Rattle.fs_words.specs.Headers.{is_too_long}
+use Rattle.fs_words.specs.declared.fault.ScriptFault.{ScriptFault}
 use Rattle.fs_script.specs.Limits.{events_in, SeatsAreThere}
 use Rattle.fs_script.specs.Script.{script_of}
 use Rattle.fs_script.specs.declared.limits.TheConstants.{EVENT_LIMIT}
@@ -20,16 +21,20 @@ use Rattle.fs_sched_witness.specs.declared.moments.Moment.{Moment}
 use Rattle.fs_sched_witness.specs.declared.moments.Moment.TheVariants as moment
 use Rattle.fs_sched.specs.Gives.{given_words}
 use Rattle.fs_sched.specs.Moments as told
-use Rattle.fs_sched.specs.Moments.{AnswersEvent, IsMoment, AreMoments, word_of, AnswersToEnd, AnswersEnd, TellsRun}
-use Rattle.fs_sched.specs.Runs.{Stage, start, next_call, Words, EndsBy, Runs, AreOfRun}
+use Rattle.fs_sched.specs.Moments.{AnswersEvent, IsMoment, AreMoments, word_of, AnswersToEnd, AnswersEnd, TellsFrom, TellsRun}
+use Rattle.fs_sched.specs.Origins.{IsFirst, RunsOn, TellsOn}
+use Rattle.fs_sched.specs.Runs.{Stage, start, next_call, Words, EndsBy, RunsFrom, Runs, AreOfRun}
 use Rattle.fs_sched.specs.Schedules.{goes_on, is_finish, one_event}
+use Rattle.fs_sched.specs.declared.origin.Origin.{Origin}
+use Rattle.fs_sched.specs.declared.origin.Origin.TheVariants.{Root, Tree}
 use Rattle.fs_sched.specs.declared.schedule.Schedule.{Schedule}
 use Rattle.fs_sched.specs.declared.schedule.Schedule.TheVariants.{Given}
 use Rattle.fs_sched.proofs.OneText.{of_each}
 use Rattle.fs_sched.proofs.Staging.{call_past}
 use Rattle.fs_sched.proofs.Telling.{moment_does, words_told, regrouped, run_told}
-use Rattle.fs_sched.proofs.Whole.{ListFacts, kept_start, words_keep}
-use Rattle.fs_trace.specs.Traces.{busy_event, busy_word, busy_words, HasSameRun, IsReadBack}
+use Rattle.fs_sched.proofs.Origins.{kept_first}
+use Rattle.fs_sched.proofs.Whole.{ListFacts, words_keep}
+use Rattle.fs_trace.specs.Traces.{busy_event, busy_word, busy_words, HasSameRun, IsReadBack, IsReadBackOn}
 use Rattle.fs_trace.specs.code.WordTexts.{AreTimed, AreAllWords, HasWords, IsWritten}
 use Rattle.fs_trace.specs.declared.script_text.RunWords.{RunWords}
 use Rattle.fs_trace.proofs.Rereading.{read_again}
@@ -49,9 +54,14 @@ ends_moments true lists old last ms end = end_moments lists old last ms end
 ends_moments false lists old last ms (none, e) = subst (λ (l : List Moment). AreMoments lists old l last) (sym none) e
 
 -- the moments of a run, the rounds to its end among them
-run_moments : (schedule : Schedule) (script : Script) (ms : List Moment) (last : Stage) → TellsRun schedule script ms last → AreMoments script.lists (start script.limits (length script.lists)) ms last
-run_moments schedule script ms last (middle, first, more, e, all, cut, end) =
-    subst (λ (l : List Moment). AreMoments script.lists (start script.limits (length script.lists)) l last) (sym e) (moments_append script.lists _ middle last first more all (ends_moments (goes_on schedule script.words) script.lists middle last more end))
+run_moments : (schedule : Schedule) (script : Script) (old : Stage) (ms : List Moment) (last : Stage) → TellsFrom schedule script old ms last → AreMoments script.lists old ms last
+run_moments schedule script old ms last (middle, first, more, e, all, cut, end) =
+    subst (λ (l : List Moment). AreMoments script.lists old l last) (sym e) (moments_append script.lists old middle last first more all (ends_moments (goes_on schedule script.words) script.lists middle last more end))
+
+-- where they begin
+tells_first : (from : Origin) (schedule : Schedule) (script : Script) (ms : List Moment) (last : Stage) → TellsOn from schedule script ms last → (first : Stage) × IsFirst from script first × TellsFrom schedule script first ms last
+tells_first Root schedule script ms last tells = (start script.limits (length script.lists), refl, tells)
+tells_first (Tree tree) schedule script ms last tells = tells
 
 -- ---- their threads
 
@@ -116,12 +126,16 @@ no_finish (word.Finish ∷ words) timed = absurd timed
 no_finish (word.Drawn ∷ words) timed = absurd timed
 
 -- a run of the script by these words ends where the run ended whose moments they give
-own_run : (schedule : Schedule) (script : Script) (ms : List Moment) (last : Stage) (words : List Word) → TellsRun schedule script ms last → AreTimed words → given_words words ≡ busy_words ms → Runs Given (record script { words = words }) (entries_told ms) last
-own_run schedule script ms last words tells timed given =
-    let first : Stage = start script.limits (length script.lists) in
-    let busy : Words script.lists first (busy_words ms) (entries_told ms) last = busy_run script.lists first last ms (run_moments schedule script ms last tells) in
+own_run : (schedule : Schedule) (script : Script) (first : Stage) (ms : List Moment) (last : Stage) (words : List Word) → TellsFrom schedule script first ms last → AreTimed words → given_words words ≡ busy_words ms → RunsFrom Given (record script { words = words }) first (entries_told ms) last
+own_run schedule script first ms last words tells timed given =
+    let busy : Words script.lists first (busy_words ms) (entries_told ms) last = busy_run script.lists first last ms (run_moments schedule script first ms last tells) in
     let done : Words script.lists first words (entries_told ms) last = regrouped script.lists first last words (entries_told ms) (subst (λ (ws : List Word). Words script.lists first ws (entries_told ms) last) (sym given) busy) in
     (last, done, subst (λ (b : Bool). EndsBy b script.lists last last) (sym (no_finish words timed)) refl)
+
+-- and so it does from where that began
+own_run_on : (from : Origin) (schedule : Schedule) (script : Script) (ms : List Moment) (last : Stage) (words : List Word) → TellsOn from schedule script ms last → AreTimed words → given_words words ≡ busy_words ms → RunsOn from Given (record script { words = words }) (entries_told ms) last
+own_run_on Root schedule script ms last words tells timed given = own_run schedule script (start script.limits (length script.lists)) ms last words tells timed given
+own_run_on (Tree tree) schedule script ms last words (first, is, tells) timed given = (first, is, own_run schedule script first ms last words tells timed given)
 
 same_run : (schedule : Schedule) (script : Script) (ms : List Moment) (last : Stage) (words : List Word) (input text : List ℕ) → script_of input ≡ Ok script → TellsRun schedule script ms last → Runs Given (record script { words = words }) (entries_told ms) last → script_of text ≡ Ok (record script { words = words }) → HasSameRun schedule input text
 same_run schedule script ms last words input text is tells runs again end out ran =
@@ -197,14 +211,21 @@ moment_more old new ms m has given timed counted few =
 
 -- ---- the whole
 
--- what was written is read back
-pub read_back : (schedule : Schedule) (input text : List ℕ) (script : Script) (run : RunWords) (ms : List Moment) (last : Stage) → script_of input ≡ Ok script → TellsRun schedule script ms last → AreAllWords run ms → IsWritten input script.names run.words.items text → is_too_long text ≡ false → IsReadBack schedule input text
-read_back schedule input text script run ms last is tells has written short =
+-- what was written is read back, and runs so again
+pub read_back : (from : Origin) (schedule : Schedule) (input text : List ℕ) (script : Script) (run : RunWords) (ms : List Moment) (last : Stage) → script_of input ≡ Ok script → TellsOn from schedule script ms last → AreAllWords run ms → IsWritten input script.names run.words.items text → is_too_long text ≡ false → IsReadBackOn from schedule script text
+read_back from schedule input text script run ms last is tells has written short =
     let words : List Word = run.words.items in
-    let seats : SeatsAreThere (length script.lists) (busy_words ms) = moments_there script.lists [] _ last ms (run_moments schedule script ms last tells) (kept_start script.limits script.lists) in
+    let (first, begins, told) = tells_first from schedule script ms last tells in
+    let seats : SeatsAreThere (length script.lists) (busy_words ms) = moments_there script.lists [] first last ms (run_moments schedule script first ms last told) (kept_first from script first begins) in
     let there : SeatsAreThere (length script.names) words =
     subst (λ n. SeatsAreThere n words) (keeps_limits input script is).a_list_each (seats_given (length script.lists) words has.timed (subst (SeatsAreThere (length script.lists)) (sym has.given) seats)) in
     let same : events_in words ≡ events_in (busy_words ms) = sym (events_given words has.timed) ∙ ap events_in has.given in
     let again = read_again input text script words is written short there has.timed (omega (arith, same, has.counted, has.few)) in
-    let own = own_run schedule script ms last words tells has.timed has.given in
-    (script, is, ms, last, tells, (words, has.given, again), same_run schedule script ms last words input text is tells own again)
+    (ms, last, tells, (words, has.given, again), (record script { words = words }, again, own_run_on from schedule script ms last words tells has.timed has.given))
+
+-- from the root alone it has the text of that run
+pub same_text : (schedule : Schedule) (input text : List ℕ) (script : Script) → script_of input ≡ Ok script → IsReadBackOn Root schedule script text → IsReadBack schedule input text
+same_text schedule input text script is (ms, last, tells, (words, given, read), (other, again, runs)) =
+    let one : other ≡ record script { words = words } = (let z : ◌≡◌ {A = Result Script ScriptFault} (Ok other) (Ok (record script { words = words })) = sym again ∙ read in cc) in
+    let own : Runs Given (record script { words = words }) (entries_told ms) last = subst (λ (s : Script). Runs Given s (entries_told ms) last) one runs in
+    (script, is, ms, last, tells, (words, given, read), same_run schedule script ms last words input text is tells own read)

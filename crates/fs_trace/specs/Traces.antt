@@ -2,15 +2,19 @@
 use Rattle.std.specs.Prelude.{ℕ, ◌≡◌, ◌⊎◌, Bool, List, [], ◌∷◌, ◌++◌, map, get_or, Ok, Option, ◌==◌, if◌then◌else◌, codes, decimal}
 use Rattle.std.specs.List.{flat_map}
 use Rattle.fs_machine.specs.States.{State}
+use Rattle.fs_timeline.specs.declared.entry.Entry.{Entry}
 use Rattle.fs_script.specs.Script.{script_of}
 use Rattle.fs_script.specs.TreeText.{tree_text, IsSpelled}
 use Rattle.fs_script.specs.declared.script.Script.{Script}
 use Rattle.fs_script.specs.declared.script.Word.{Word}
 use Rattle.fs_script.specs.declared.script.Word.TheVariants as word
 use Rattle.fs_calls.specs.Tree.{Tree}
+use Rattle.fs_sched.specs.Origins.{RunsOn, TellsOn}
 use Rattle.fs_sched.specs.Runs.{Stage, end_of, IsRunOf}
 use Rattle.fs_sched.specs.RunTexts.{end_line}
 use Rattle.fs_sched.specs.Schedules.{one_event}
+use Rattle.fs_sched.specs.declared.origin.Origin.{Origin}
+use Rattle.fs_sched.specs.declared.origin.Origin.TheVariants.{Root}
 use Rattle.fs_sched.specs.declared.running.RunEnd.{RunEnd}
 use Rattle.fs_sched.specs.declared.schedule.Schedule.{Schedule}
 use Rattle.fs_sched.specs.declared.schedule.Schedule.TheVariants.{Given}
@@ -100,9 +104,13 @@ abbrev pub IsScheduleText : List ℕ → List (List ℕ) → List Moment → Lis
 IsScheduleText input names ms text =
     (blocks rest texts : List ℕ) × (words : List Word) × (input ≡ blocks ++ rest) × (given_words words ≡ busy_words ms) × AreWordTexts names words texts × (text ≡ blocks ++ (texts ++ codes "\n"))
 
+-- a script that an input has, with the moments of a run of it from there as its words
+abbrev pub IsScheduleOn : Origin → Schedule → Script → List ℕ → List ℕ → Type 0
+IsScheduleOn from schedule script input text = (ms : List Moment) × (last : Stage) × TellsOn from schedule script ms last × IsScheduleText input script.names ms text
+
 -- the script that an input has, with the moments of a run of it as its words
 abbrev pub IsScheduleOf : Schedule → List ℕ → List ℕ → Type 0
-IsScheduleOf schedule input text = (script : Script) × (script_of input ≡ Ok script) × (ms : List Moment) × (last : Stage) × TellsRun schedule script ms last × IsScheduleText input script.names ms text
+IsScheduleOf schedule input text = (script : Script) × (script_of input ≡ Ok script) × IsScheduleOn Root schedule script input text
 
 -- ---- what is read of such a script
 
@@ -117,3 +125,11 @@ HasSameRun schedule input other = (end : RunEnd) (text : List ℕ) → IsRunOf s
 -- a text is read back as the script that an input has, with the moments of a run of it as its words, and has the text of that run
 abbrev pub IsReadBack : Schedule → List ℕ → List ℕ → Type 0
 IsReadBack schedule input text = (script : Script) × (script_of input ≡ Ok script) × (ms : List Moment) × (last : Stage) × TellsRun schedule script ms last × IsReadAs script ms text × HasSameRun schedule input text
+
+-- the script that a text has runs so by its own words from there
+abbrev pub RunsAgainOn : Origin → List ℕ → List Entry → Stage → Type 0
+RunsAgainOn from text told last = (script : Script) × (script_of text ≡ Ok script) × RunsOn from Given script told last
+
+-- a text is read back as a script with the moments of a run of it from there as its words, and that runs so again by these
+abbrev pub IsReadBackOn : Origin → Schedule → Script → List ℕ → Type 0
+IsReadBackOn from schedule script text = (ms : List Moment) × (last : Stage) × TellsOn from schedule script ms last × IsReadAs script ms text × RunsAgainOn from text (entries_told ms) last

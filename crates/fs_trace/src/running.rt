@@ -15,9 +15,9 @@ ghost use Rattle.fs_trace.specs.code.ObjectTexts.{MakesObjects};
 use crate::fault::ScheduleFault;
 use crate::object_text::object_text;
 use crate::objects::TraceObjects;
-use crate::script_text::{RunWords, script_text};
+use crate::scheduling::schedule_at;
 use crate::trace_text::{TraceLines, trace_text};
-use fs_sched::{RunEnd, RunFault, Schedule, between, script_in, watch};
+use fs_sched::{Origin, RunEnd, RunFault, Schedule, between, script_in, watch};
 use fs_trace_story::Teller;
 use fs_verdict::{Made, Sink, Source, transform};
 use std::alloc::Global;
@@ -86,13 +86,13 @@ fn schedule_of(alloc: Global, text: &[u8], schedule: Schedule) -> Result<Made<()
     ensures { MakesSchedule schedule text.now result }
 {
     let script = script_in(alloc, text)?;
-    let mut words = RunWords::new(alloc);
-    watch(alloc, &script, schedule, &mut words)?;
-    if words.are_too_many() {
-        return Err(ScheduleFault::TooManyEvents);
+    match schedule_at(alloc, &Origin::Root, &script, text, schedule) {
+        Ok(made) => Ok(Made {
+            text: made,
+            end: (),
+        }),
+        Err(fault) => Err(fault),
     }
-    let text = script_text(alloc, text, &script, words)?;
-    Ok(Made { text, end: () })
 }
 
 /// A script in memory with the moments of its run as its words, as `schedule_script` writes it. It is read where it stands.

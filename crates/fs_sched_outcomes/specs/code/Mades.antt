@@ -5,13 +5,14 @@ use Rattle.fs_verdict.specs.declared.shell.Made.{Made}
 use Rattle.fs_script.specs.Script.{script_of}
 use Rattle.fs_script.specs.declared.script.Script.{Script}
 use Rattle.fs_sched.specs.Devices.{IsFaultOf}
+use Rattle.fs_sched.specs.declared.origin.Origin.{Origin}
 use Rattle.fs_words.specs.Headers.{is_too_long}
 use Rattle.fs_verdict.specs.declared.fault.RunFault.{RunFault}
 use Rattle.fs_verdict.specs.declared.fault.RunFault.TheVariants.{Input, Read, Write, OutOfMemory, Full, UnderWay}
 use Rattle.fs_sched_outcomes.specs.Added.{AreAdded}
 use Rattle.fs_sched_outcomes.specs.Ends.{EndValue}
 use Rattle.fs_sched_outcomes.specs.Lines.{added_line, added_text}
-use Rattle.fs_sched_outcomes.specs.Outcomes.{AreDrawn, AreOutcomesOf, EndsAs}
+use Rattle.fs_sched_outcomes.specs.Outcomes.{AreDrawn, AreOutcomesOf, EndsOn}
 use Rattle.fs_sched_outcomes.specs.Sums.{AddsUp, AreInOrder, times_of}
 use Rattle.fs_sched_outcomes.specs.code.Adding.{with_row}
 use Rattle.fs_sched_outcomes.specs.declared.lines.Form.{Form}
@@ -22,13 +23,13 @@ abbrev pub single : ℕ → EndValue → Row
 single n end = record { times = 1; seed = n; end = end }
 
 -- the run that is drawn from a number is added to rows
-abbrev pub AddsRun : Script → ℕ → List Row → List Row → Type 0
-AddsRun script n old new = (end : EndValue) × EndsAs script n end × (new ≡ with_row old (single n end))
+abbrev pub AddsRun : Origin → Script → ℕ → List Row → List Row → Type 0
+AddsRun at script n old new = (end : EndValue) × EndsOn at script n end × (new ≡ with_row old (single n end))
 
 -- rows add up so many runs
-pub record HasRuns (script : Script) (seed runs : ℕ) (rows : List Row) : Type 0 where
+pub record HasRuns (at : Origin) (script : Script) (seed runs : ℕ) (rows : List Row) : Type 0 where
   pub drawn : List Row
-  pub are_drawn : AreDrawn script seed drawn
+  pub are_drawn : AreDrawn at script seed drawn
   pub count : length drawn ≡ runs
   pub adds_up : AddsUp drawn rows
   pub total : sum_by times_of rows ≡ runs

@@ -8,7 +8,10 @@ use Rattle.fs_words.specs.Headers.{is_too_long}
 use Rattle.fs_sched.specs.declared.running.RunEnd.{RunEnd}
 use Rattle.fs_sched.specs.declared.schedule.Schedule.{Schedule}
 use Rattle.fs_sched.specs.Runs.{IsFaultOfRun}
-use Rattle.fs_trace.specs.Faults.{IsFaultOfSchedule}
+use Rattle.fs_sched.specs.code.Done.{IsStopOn}
+use Rattle.fs_sched.specs.declared.origin.Origin.{Origin}
+use Rattle.fs_script.specs.declared.script.Script.{Script}
+use Rattle.fs_trace.specs.Faults.{HasNoRoomOn, IsFaultOfSchedule}
 use Rattle.fs_trace.specs.Traces.{IsTraceOf, IsScheduleText, IsScheduleOf, IsReadBack}
 use Rattle.fs_trace.specs.declared.fault.ScheduleFault.{ScheduleFault}
 use Rattle.fs_trace.specs.declared.fault.ScheduleFault.TheVariants.{Run, TooManyEvents, TooLong}
@@ -23,6 +26,12 @@ pub record MakesSchedule (schedule : Schedule) (input : List ℕ) (result : Resu
   pub script : IfOk result (λ made. IsScheduleOf schedule input made.text.items)
   pub again : IfOk result (λ made. IsReadBack schedule input made.text.items)
   pub fault : IfErr result (IsFaultOfSchedule schedule input)
+
+-- why there is no script with the moments of a run from there as its words: there is no run, or no room
+abbrev pub IsFaultOfScheduleOn : Origin → Schedule → Script → List ℕ → ScheduleFault → Type 0
+IsFaultOfScheduleOn from schedule script input (Run fault) = IsStopOn from schedule script fault
+IsFaultOfScheduleOn from schedule script input TooManyEvents = HasNoRoomOn from schedule script input TooManyEvents
+IsFaultOfScheduleOn from schedule script input TooLong = HasNoRoomOn from schedule script input TooLong
 
 -- why a script's text with the moments of a run as its words is not handed out: it is too long, or out of memory
 abbrev pub IsNotHandedOut : List ℕ → List (List ℕ) → List Moment → ScheduleFault → Type 0

@@ -1,7 +1,6 @@
-use Rattle.std.proofs.Common.{◌≡◌, List, false, get_or, rules, subst}
+use Rattle.std.proofs.Common.{◌≡◌, false, get_or, rules, subst}
 use Rattle.fs_nodes.specs.Stores.{graph_of}
 use Rattle.fs_sched_find.specs.What.{HasAll}
-use Rattle.fs_sched_find.specs.declared.what.Clause.{Clause}
 use Rattle.fs_sched_find.proofs.Steps.{all_more}
 use Rattle.fs_sched_find.proofs.having.has.Goals as goal
 

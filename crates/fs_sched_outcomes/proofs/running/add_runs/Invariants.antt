@@ -5,5 +5,5 @@ use Rattle.fs_sched_outcomes.proofs.running.add_runs.Given as goal
 abbrev pub invariant-loop-run : goal.invariant-loop-run
 invariant-loop-run g l = record {
   kept : AreKept l.rows;
-  has : HasRuns l.script l.seed l.run l.rows.rows.items;
+  has : HasRuns l.from l.script l.seed l.run l.rows.rows.items;
 }
