@@ -3,17 +3,17 @@
 ghost use Rattle.std.specs.Prelude.{◌-◌, ◌<◌, ◌^◌};
 
 use atomfs_answers::{
-    Kept, Line, Screen, report_draw, report_file, report_learned, report_linearize, report_many,
+    Kept, Line, report_draw, report_file, report_learned, report_linearize, report_many,
     report_minimized, report_table, report_unopened, report_unwritten,
 };
 use atomfs_arguments::{Drawing, Histories as Asked, Recorded};
 use fs_draw::{DrawFault, View, draw_input};
 use fs_draw_page::noted_page;
 use fs_linearize_dialects::{Dialect, known_table, read_dialect};
-use fs_linearize_minimal::{Minimized, minimize_history};
+use fs_linearize_minimal::minimize_history;
 use fs_linearize_text::{
-    Failing, Histories, Linearized, Outcome, Untold, learn_histories, linearize_bytes,
-    linearize_history, linearize_many,
+    Failing, Linearized, Outcome, learn_histories, linearize_bytes, linearize_history,
+    linearize_many,
 };
 use fs_sched::{Device, RunFault, Schedule, Sink, Source, write_text};
 use fs_sched_start::whole_text;
@@ -23,74 +23,6 @@ use std::fs::{File, create_dir_all};
 use std::io::{self, Write};
 use std::rt::Files;
 use std::time::Clock;
-
-/// Linearizes a history, and shows on a terminal how far that is.
-fn linearize_shown<C: Clock, R: Source, W: Sink>(
-    clock: &C,
-    alloc: Global,
-    reader: &mut R,
-    writer: &mut W,
-    dialect: &Dialect,
-    limit: usize,
-    front: bool,
-    screen: &Screen,
-) -> Result<Linearized, RunFault>
-    requires reads { R.failures reader.old < 2 ^ 64 - 1 }
-    requires writes { W.failures writer.old < 2 ^ 64 - 1 }
-{
-    if !screen.is_terminal() {
-        return linearize_history(alloc, reader, writer, dialect, limit, front, &mut Untold);
-    }
-    let mut line = Line::new(clock, screen);
-    let outcome = linearize_history(alloc, reader, writer, dialect, limit, front, &mut line);
-    screen.erase();
-    outcome
-}
-
-/// Linearizes histories one after the other, and shows on a terminal how far that is.
-fn many_shown<C: Clock, R: Source, W: Sink>(
-    clock: &C,
-    alloc: Global,
-    reader: &mut R,
-    writer: &mut W,
-    dialect: &Dialect,
-    limit: usize,
-    failing: bool,
-    screen: &Screen,
-) -> Result<Histories, RunFault>
-    requires reads { R.failures reader.old < 2 ^ 64 - 1 }
-    requires writes { W.failures writer.old < 2 ^ 64 - 1 }
-{
-    if !screen.is_terminal() {
-        return linearize_many(alloc, reader, writer, dialect, limit, failing, &mut Untold);
-    }
-    let mut line = Line::new(clock, screen);
-    let outcome = linearize_many(alloc, reader, writer, dialect, limit, failing, &mut line);
-    screen.erase();
-    outcome
-}
-
-/// Cuts a history without an order down to the calls that show it, and shows on a terminal how far that is.
-fn minimize_shown<C: Clock, R: Source, W: Sink>(
-    clock: &C,
-    alloc: Global,
-    reader: &mut R,
-    writer: &mut W,
-    dialect: &Dialect,
-    limit: usize,
-    screen: &Screen,
-) -> Result<Minimized, RunFault>
-    requires reads { R.failures reader.old < 2 ^ 64 - 1 }
-    requires writes { W.failures writer.old < 2 ^ 64 - 1 }
-{
-    if !screen.is_terminal() {
-        return minimize_history(alloc, reader, writer, dialect, limit, &mut Untold);
-    }
-    let mut line = Line::new(clock, screen);
-    let outcome = minimize_history(alloc, reader, writer, dialect, limit, &mut line);
-    screen.erase();
-    outcome
-}
 
 /// The table of which a text is read; or the status where it is none, whose message after this name is written.
 fn table_in<E: Write>(
@@ -178,19 +110,21 @@ fn linearize_each<T: Clock + Files, R: Source, W: Sink, E: Write>(
     limit: usize,
     folder: Option<&str>,
     errors: &mut E,
-    screen: &Screen,
+    line: &mut Line<'_, T>,
 ) -> u8
     requires reads { R.failures reader.old.inner < 2 ^ 64 - 1 }
     requires writes { W.failures writer.old < 2 ^ 64 - 1 }
 {
     let Some(folder) = folder else {
-        let outcome = many_shown(rt, alloc, reader, writer, dialect, limit, false, screen);
+        let outcome = linearize_many(alloc, reader, writer, dialect, limit, false, line);
+        line.erase();
         return report_many(errors, &reader.seen, outcome);
     };
     if let Err(error) = create_dir_all(rt, folder) {
         return report_unwritten(errors, folder, &error);
     }
-    let outcome = many_shown(rt, alloc, reader, writer, dialect, limit, true, screen);
+    let outcome = linearize_many(alloc, reader, writer, dialect, limit, true, line);
+    line.erase();
     if let Ok(told) = &outcome {
         if let Err(status) = write_each(rt, alloc, folder, &told.notes.kept, errors) {
             return status;
@@ -314,7 +248,7 @@ pub(crate) fn linearize<T: Clock + Files, R: Source, W: Sink, E: Write>(
     reader: &mut Kept<R>,
     writer: &mut W,
     errors: &mut E,
-    screen: &Screen,
+    line: &mut Line<'_, T>,
 ) -> u8
     requires reads { R.failures reader.old.inner < 2 ^ 64 - 1 }
     requires writes { W.failures writer.old < 2 ^ 64 - 1 }
@@ -333,10 +267,11 @@ pub(crate) fn linearize<T: Clock + Files, R: Source, W: Sink, E: Write>(
             limit,
             recorded.failing,
             errors,
-            screen,
+            line,
         ),
         Asked::Core => {
-            let outcome = minimize_shown(rt, alloc, reader, writer, &dialect, limit, screen);
+            let outcome = minimize_history(alloc, reader, writer, &dialect, limit, line);
+            line.erase();
             report_minimized(errors, &reader.seen, outcome)
         }
         Asked::Learn => {
@@ -348,9 +283,8 @@ pub(crate) fn linearize<T: Clock + Files, R: Source, W: Sink, E: Write>(
                 return draw_found(alloc, reader, writer, &dialect, limit, drawing, errors);
             }
             let front = histories == Asked::Front;
-            let outcome = linearize_shown(
-                rt, alloc, reader, writer, &dialect, limit, front, screen,
-            );
+            let outcome = linearize_history(alloc, reader, writer, &dialect, limit, front, line);
+            line.erase();
             report_linearize(errors, &reader.seen, outcome)
         }
     }

@@ -10,28 +10,31 @@
 
 ghost use Rattle.std.specs.Prelude.{◌-◌, ◌<◌, ◌≤◌, ◌^◌};
 ghost use Rattle.atomfs_arguments.specs.Commands.{IsWithin};
-ghost use Rattle.fs_sched.specs.declared.seeding.TheConstants.{SEED_LIMIT};
+ghost use Rattle.fs_sched.specs.declared.seeding.TheConstants.{RUN_LIMIT, SEED_LIMIT};
 ghost use Rattle.fs_sched_find.specs.declared.finding.TheConstants.{SEARCH_LIMIT};
+ghost use Rattle.fs_sched_outcomes.specs.declared.running.TheConstants.{OUTCOME_LIMIT};
 
 mod drawing;
+mod from_tree;
 mod linearizing;
 mod terminals;
 
 use crate::drawing::{draw, refused_terminal};
+use crate::from_tree::{find_at, outcomes_at, run_at, seeds_at, shrink_at};
 use crate::linearizing::linearize;
 use crate::terminals::{Terminals, excerpts_of, has_no_color, is_in_colours, layout_of};
 use atomfs_answers::{
     Erasing, Input, Kept, Line, Screen, SharedLine, report, report_asserted, report_check,
-    report_draw, report_fault, report_file, report_find, report_from, report_schedule,
-    report_shrink, report_trace, report_tree, report_unopened, report_words, status_of_run,
-    status_of_unreadable_args, status_of_usage, status_of_verdict, tell_reading,
+    report_draw, report_fault, report_find, report_schedule, report_shrink, report_trace,
+    report_tree, report_unopened, report_words, status_of_run, status_of_unreadable_args,
+    status_of_usage, status_of_verdict, tell_reading,
 };
 use atomfs_arguments::{Asserted, Format, Invocation, Subcommand, parse};
 use atomfs_colours::Painting;
 use fs_explain::{Topic, explanation};
 use fs_sched::{
-    Device, RunFault, Schedule, Silent, Sink, Source, Witness, check_journal, run_script,
-    run_seeds, write_text,
+    Device, RunFault, Schedule, Sink, Source, Witness, check_journal, run_script, run_seeds,
+    write_text,
 };
 use fs_sched_find::{Clauses, FindFault, find_seed, read_what};
 use fs_sched_json::{check_object, find_object, seed_objects};
@@ -39,9 +42,7 @@ use fs_sched_outcomes::{
     Assertion, Form, add_outcomes, assert_outcomes, read_assertion, run_outcomes,
 };
 use fs_sched_shrink::shrink_script;
-use fs_sched_start::{StartFault, run_from, whole_text};
-use fs_sched_threads::{ThreadsFault, Watch, run_threads};
-use fs_share::Open;
+use fs_sched_threads::{ThreadsFault, run_threads};
 use fs_trace::{ScheduleFault, schedule_script};
 use fs_trace_entries::{Notation, trace_input};
 use fs_trace_replay::{Asked, ReplayFault, Replayed, read_question, replay_input};
@@ -72,24 +73,6 @@ fn run<R: Source, W: Sink, P: Witness>(
     }
 }
 
-/// Runs a script from the tree that a text has, and answers the status.
-fn run_at<R: Source, W: Sink, P: Witness>(
-    alloc: Global,
-    tree: Vec<u8>,
-    reader: &mut R,
-    writer: &mut W,
-    schedule: Schedule,
-    progress: &mut P,
-) -> Result<u8, StartFault>
-    requires reads { R.failures reader.old < 2 ^ 64 - 1 }
-    requires writes { W.failures writer.old < 2 ^ 64 - 1 }
-{
-    match run_from(alloc, tree, reader, writer, schedule, progress) {
-        Ok(end) => Ok(status_of_run(&end)),
-        Err(fault) => Err(fault),
-    }
-}
-
 /// How a trace is written.
 fn notation_of(format: Format) -> Notation {
     match format {
@@ -110,7 +93,9 @@ fn seeds<R: Source, W: Sink, P: Witness>(
 ) -> Result<u8, RunFault>
     requires reads { R.failures reader.old < 2 ^ 64 - 1 }
     requires writes { W.failures writer.old < 2 ^ 64 - 1 }
-    requires within { IsWithin (Subcommand.Seeds seed runs format) }
+    requires seed { seed ≤ SEED_LIMIT }
+    requires some { 1 ≤ runs }
+    requires most { runs ≤ RUN_LIMIT }
 {
     let outcome = match format {
         Format::Text => run_seeds(alloc, reader, writer, seed, runs, progress),
@@ -140,18 +125,19 @@ fn tree<R: Source, W: Sink>(
 }
 
 /// Runs the threads of a script on real ones, and answers the status.
-fn threads<T: Threads + Wait + Clock + Sync, R: Source, W: Sink, G: Watch + Sync>(
+fn threads<T: Threads + Wait + Clock + Sync, R: Source, W: Sink>(
     rt: &T,
     alloc: Global,
     reader: &mut R,
     writer: &mut W,
-    watch: &G,
     journal: bool,
+    screen: &Screen,
 ) -> Result<u8, ThreadsFault>
     requires reads { R.failures reader.old < 2 ^ 64 - 1 }
     requires writes { W.failures writer.old < 2 ^ 64 - 1 }
 {
-    match run_threads(rt, alloc, reader, writer, watch, journal) {
+    let line = SharedLine::new(rt, screen);
+    match run_threads(rt, alloc, reader, writer, &line, journal) {
         Ok(lawful) => Ok(status_of_verdict(lawful)),
         Err(fault) => Err(fault),
     }
@@ -189,100 +175,6 @@ fn explain<W: Sink>(
     Ok(0)
 }
 
-/// Runs a script, and shows on a terminal how far that is.
-fn run_shown<C: Clock, R: Source, W: Sink>(
-    clock: &C,
-    alloc: Global,
-    reader: &mut R,
-    writer: &mut W,
-    schedule: Schedule,
-    screen: &Screen,
-) -> Result<u8, RunFault>
-    requires reads { R.failures reader.old < 2 ^ 64 - 1 }
-    requires writes { W.failures writer.old < 2 ^ 64 - 1 }
-{
-    if !screen.is_terminal() {
-        return run(alloc, reader, writer, schedule, &mut Silent);
-    }
-    let mut line = Line::new(clock, screen);
-    let outcome = run(alloc, reader, writer, schedule, &mut line);
-    screen.erase();
-    outcome
-}
-
-/// Runs a script from the tree that a text has, and shows on a terminal how far that is.
-fn run_at_shown<C: Clock, R: Source, W: Sink>(
-    clock: &C,
-    alloc: Global,
-    tree: Vec<u8>,
-    reader: &mut R,
-    writer: &mut W,
-    schedule: Schedule,
-    screen: &Screen,
-) -> Result<u8, StartFault>
-    requires reads { R.failures reader.old < 2 ^ 64 - 1 }
-    requires writes { W.failures writer.old < 2 ^ 64 - 1 }
-{
-    if !screen.is_terminal() {
-        return run_at(alloc, tree, reader, writer, schedule, &mut Silent);
-    }
-    let mut line = Line::new(clock, screen);
-    let outcome = run_at(alloc, tree, reader, writer, schedule, &mut line);
-    screen.erase();
-    outcome
-}
-
-/// Runs a script from the tree in a file, which is read first, and answers the exit status.
-fn run_at_file<T: Clock + Files, R: Source, W: Sink, E: Write>(
-    rt: &T,
-    alloc: Global,
-    file: &str,
-    reader: &mut Kept<R>,
-    writer: &mut W,
-    schedule: Schedule,
-    errors: &mut E,
-    screen: &Screen,
-) -> u8
-    requires reads { R.failures reader.old.inner < 2 ^ 64 - 1 }
-    requires writes { W.failures writer.old < 2 ^ 64 - 1 }
-{
-    let opened = match File::open(rt, file) {
-        Ok(opened) => opened,
-        Err(error) => return report_unopened(errors, file, &error),
-    };
-    let mut source = Kept::new(alloc, Device::new(opened));
-    let tree = match whole_text(alloc, &mut source) {
-        Ok(tree) => tree,
-        Err(fault) => return report_file(errors, file, fault),
-    };
-    let outcome = run_at_shown(rt, alloc, tree, reader, writer, schedule, screen);
-    report_from(errors, &reader.seen, file, &source.seen, outcome)
-}
-
-/// Makes drawn runs of a script, and shows on a terminal how far they are.
-fn seeds_shown<C: Clock, R: Source, W: Sink>(
-    clock: &C,
-    alloc: Global,
-    reader: &mut R,
-    writer: &mut W,
-    numbers: (u64, u64),
-    format: Format,
-    screen: &Screen,
-) -> Result<u8, RunFault>
-    requires reads { R.failures reader.old < 2 ^ 64 - 1 }
-    requires writes { W.failures writer.old < 2 ^ 64 - 1 }
-    requires within { IsWithin (Subcommand.Seeds numbers.0 numbers.1 format) }
-{
-    let (first, runs) = numbers;
-    if !screen.is_terminal() {
-        return seeds(alloc, reader, writer, first, runs, format, &mut Silent);
-    }
-    let mut line = Line::new(clock, screen);
-    let outcome = seeds(alloc, reader, writer, first, runs, format, &mut line);
-    screen.erase();
-    outcome
-}
-
 /// Counts the ends of drawn runs of a script, and answers the status.
 fn outcomes<R: Source, W: Sink, P: Witness>(
     alloc: Global,
@@ -294,7 +186,9 @@ fn outcomes<R: Source, W: Sink, P: Witness>(
 ) -> Result<u8, RunFault>
     requires reads { R.failures reader.old < 2 ^ 64 - 1 }
     requires writes { W.failures writer.old < 2 ^ 64 - 1 }
-    requires within { IsWithin (Subcommand.Outcomes numbers.0 numbers.1 form) }
+    requires seed { numbers.0 ≤ SEED_LIMIT }
+    requires some { 1 ≤ numbers.1 }
+    requires most { numbers.1 ≤ OUTCOME_LIMIT }
 {
     let (first, runs) = numbers;
     match run_outcomes(alloc, reader, writer, first, runs, form, progress) {
@@ -303,31 +197,8 @@ fn outcomes<R: Source, W: Sink, P: Witness>(
     }
 }
 
-/// The same, and shows on a terminal how far the runs are.
-fn outcomes_shown<C: Clock, R: Source, W: Sink>(
-    clock: &C,
-    alloc: Global,
-    reader: &mut R,
-    writer: &mut W,
-    numbers: (u64, u64),
-    form: Form,
-    screen: &Screen,
-) -> Result<u8, RunFault>
-    requires reads { R.failures reader.old < 2 ^ 64 - 1 }
-    requires writes { W.failures writer.old < 2 ^ 64 - 1 }
-    requires within { IsWithin (Subcommand.Outcomes numbers.0 numbers.1 form) }
-{
-    if !screen.is_terminal() {
-        return outcomes(alloc, reader, writer, numbers, form, &mut Silent);
-    }
-    let mut line = Line::new(clock, screen);
-    let outcome = outcomes(alloc, reader, writer, numbers, form, &mut line);
-    screen.erase();
-    outcome
-}
-
 /// What is asserted of drawn runs, read from words. Where these say nothing, the answer is the status, and the message is written.
-fn assertions_of<'a, E: Write>(
+pub(crate) fn assertions_of<'a, E: Write>(
     alloc: Global,
     asserted: &[Asserted<'a>],
     errors: &mut E,
@@ -345,44 +216,8 @@ fn assertions_of<'a, E: Write>(
     Ok(asserts)
 }
 
-/// Counts the ends of drawn runs of a script and decides what is asserted of these, and shows on a terminal how far the
-/// runs are.
-fn asserts_shown<C: Clock, R: Source, W: Sink>(
-    clock: &C,
-    alloc: Global,
-    reader: &mut R,
-    writer: &mut W,
-    asserts: &[Assertion<'_>],
-    numbers: (u64, u64),
-    form: Form,
-    screen: &Screen,
-) -> Result<Vec<Option<u64>>, FindFault>
-    requires reads { R.failures reader.old < 2 ^ 64 - 1 }
-    requires writes { W.failures writer.old < 2 ^ 64 - 1 }
-    requires within { IsWithin (Subcommand.Outcomes numbers.0 numbers.1 form) }
-{
-    let (first, runs) = numbers;
-    if !screen.is_terminal() {
-        return assert_outcomes(
-            alloc,
-            reader,
-            writer,
-            asserts,
-            first,
-            runs,
-            form,
-            &mut Silent,
-        );
-    }
-    let mut line = Line::new(clock, screen);
-    let outcome = assert_outcomes(alloc, reader, writer, asserts, first, runs, form, &mut line);
-    screen.erase();
-    outcome
-}
-
-/// The same of what words assert, which are read first, and answers the exit status.
+/// The same, and decides what is asserted of the runs in words, which are read first; answers the exit status.
 fn asserted_outcomes<C: Clock, R: Source, W: Sink, E: Write>(
-    clock: &C,
     alloc: Global,
     asserted: &[Asserted<'_>],
     numbers: (u64, u64),
@@ -390,27 +225,21 @@ fn asserted_outcomes<C: Clock, R: Source, W: Sink, E: Write>(
     reader: &mut Kept<R>,
     writer: &mut W,
     errors: &mut E,
-    screen: &Screen,
+    line: &mut Line<'_, C>,
 ) -> u8
     requires reads { R.failures reader.old.inner < 2 ^ 64 - 1 }
     requires writes { W.failures writer.old < 2 ^ 64 - 1 }
-    requires within { IsWithin (Subcommand.Outcomes numbers.0 numbers.1 form) }
+    requires seed { numbers.0 ≤ SEED_LIMIT }
+    requires runs { numbers.1 ≤ OUTCOME_LIMIT }
 {
     let asserts = match assertions_of(alloc, asserted, errors) {
         Ok(asserts) => asserts,
         Err(status) => return status,
     };
-    let outcome = asserts_shown(
-        clock, alloc, reader, writer, &asserts, numbers, form, screen,
-    );
-    report_asserted(
-        errors,
-        &reader.seen,
-        &asserts,
-        numbers.0,
-        numbers.1,
-        outcome,
-    )
+    let (first, runs) = numbers;
+    let outcome = assert_outcomes(alloc, reader, writer, &asserts, first, runs, form, line);
+    line.erase();
+    report_asserted(errors, &reader.seen, &asserts, first, runs, outcome)
 }
 
 /// Adds up lines of ends, and answers the status.
@@ -451,34 +280,8 @@ fn find_as<R: Source, W: Sink, P: Witness>(
     }
 }
 
-/// Searches drawn runs of a script, and shows on a terminal how far they are.
-fn find_shown<C: Clock, R: Source, W: Sink>(
-    clock: &C,
-    alloc: Global,
-    reader: &mut R,
-    writer: &mut W,
-    what: &[Clauses],
-    numbers: (u64, u64),
-    format: Format,
-    screen: &Screen,
-) -> Result<Option<u64>, FindFault>
-    requires reads { R.failures reader.old < 2 ^ 64 - 1 }
-    requires writes { W.failures writer.old < 2 ^ 64 - 1 }
-    requires seed { numbers.0 ≤ SEED_LIMIT }
-    requires runs { numbers.1 ≤ SEARCH_LIMIT }
-{
-    if !screen.is_terminal() {
-        return find_as(alloc, reader, writer, what, numbers, format, &mut Silent);
-    }
-    let mut line = Line::new(clock, screen);
-    let outcome = find_as(alloc, reader, writer, what, numbers, format, &mut line);
-    screen.erase();
-    outcome
-}
-
 /// Searches drawn runs of a script for what a text says, which is read first, and answers the exit status.
 fn find<C: Clock, R: Source, W: Sink, E: Write>(
-    clock: &C,
     alloc: Global,
     what: &str,
     numbers: (u64, u64),
@@ -486,7 +289,7 @@ fn find<C: Clock, R: Source, W: Sink, E: Write>(
     reader: &mut Kept<R>,
     writer: &mut W,
     errors: &mut E,
-    screen: &Screen,
+    line: &mut Line<'_, C>,
 ) -> u8
     requires reads { R.failures reader.old.inner < 2 ^ 64 - 1 }
     requires writes { W.failures writer.old < 2 ^ 64 - 1 }
@@ -497,16 +300,16 @@ fn find<C: Clock, R: Source, W: Sink, E: Write>(
         Ok(what) => what,
         Err(fault) => return report_words(errors, "where", fault),
     };
-    let outcome = find_shown(
-        clock,
+    let outcome = find_as(
         alloc,
         reader,
         writer,
         what.as_slice(),
         numbers,
         format,
-        screen,
+        line,
     );
+    line.erase();
     report_find(errors, &reader.seen, numbers.0, numbers.1, outcome)
 }
 
@@ -529,27 +332,6 @@ fn shrink<R: Source, W: Sink, E: Write>(
     report_shrink(errors, &reader.seen, outcome)
 }
 
-/// Runs the threads of a script on real ones, and shows on a terminal how far they are.
-fn threads_shown<T: Threads + Wait + Clock + Sync, R: Source, W: Sink>(
-    rt: &T,
-    alloc: Global,
-    reader: &mut R,
-    writer: &mut W,
-    journal: bool,
-    screen: &Screen,
-) -> Result<u8, ThreadsFault>
-    requires reads { R.failures reader.old < 2 ^ 64 - 1 }
-    requires writes { W.failures writer.old < 2 ^ 64 - 1 }
-{
-    if !screen.is_terminal() {
-        return threads(rt, alloc, reader, writer, &Open, journal);
-    }
-    let line = SharedLine::new(rt, screen);
-    let outcome = threads(rt, alloc, reader, writer, &line, journal);
-    screen.erase();
-    outcome
-}
-
 /// Does what a subcommand asks for, and what is asserted of its runs, from a reader to a writer, and answers the exit
 /// status. The message of a fault goes to `errors`. If these go to a terminal, it shows how far a long command is.
 fn perform<T: Threads + Wait + Clock + Files + Sync, R: Source, W: Sink, E: Write>(
@@ -566,28 +348,45 @@ fn perform<T: Threads + Wait + Clock + Files + Sync, R: Source, W: Sink, E: Writ
     requires reads { R.failures reader.old.inner < 2 ^ 64 - 1 }
     requires writes { W.failures writer.old < 2 ^ 64 - 1 }
 {
+    let mut line = Line::new(rt, screen);
     let outcome = match subcommand {
-        Subcommand::Run(order, None) => run_shown(rt, alloc, reader, writer, *order, screen),
+        Subcommand::Run(order, None) => run(alloc, reader, writer, *order, &mut line),
         Subcommand::Run(order, Some(file)) => {
-            return run_at_file(rt, alloc, file, reader, writer, *order, errors, screen);
+            return run_at(rt, alloc, file, *order, reader, writer, errors, &mut line);
         }
-        Subcommand::Seeds(first, runs, format) => {
-            let numbers = (*first, *runs);
-            seeds_shown(rt, alloc, reader, writer, numbers, *format, screen)
+        Subcommand::Seeds(first, runs, format, None) => {
+            seeds(alloc, reader, writer, *first, *runs, *format, &mut line)
         }
-        Subcommand::Outcomes(first, runs, form) if !asserted.is_empty() => {
+        Subcommand::Seeds(first, runs, format, Some(file)) => {
             let numbers = (*first, *runs);
-            return asserted_outcomes(
-                rt, alloc, asserted, numbers, *form, reader, writer, errors, screen,
+            return seeds_at(
+                rt, alloc, file, numbers, *format, reader, writer, errors, &mut line,
             );
         }
-        Subcommand::Outcomes(first, runs, form) => {
-            outcomes_shown(rt, alloc, reader, writer, (*first, *runs), *form, screen)
+        Subcommand::Outcomes(first, runs, form, Some(file)) => {
+            let numbers = (*first, *runs);
+            return outcomes_at(
+                rt, alloc, file, asserted, numbers, *form, reader, writer, errors, &mut line,
+            );
+        }
+        Subcommand::Outcomes(first, runs, form, None) if !asserted.is_empty() => {
+            let numbers = (*first, *runs);
+            return asserted_outcomes(
+                alloc, asserted, numbers, *form, reader, writer, errors, &mut line,
+            );
+        }
+        Subcommand::Outcomes(first, runs, form, None) => {
+            outcomes(alloc, reader, writer, (*first, *runs), *form, &mut line)
         }
         Subcommand::AddedOutcomes(form) => added_outcomes(alloc, reader, writer, *form),
-        Subcommand::Find(what, first, runs, format) => {
+        Subcommand::Find(what, first, runs, format, Some(file)) => {
+            let numbers = (*first, *runs);
+            return find_at(
+                rt, alloc, file, what, numbers, *format, reader, writer, errors, &mut line,
+            );
+        }
+        Subcommand::Find(what, first, runs, format, None) => {
             return find(
-                rt,
                 alloc,
                 what,
                 (*first, *runs),
@@ -595,10 +394,13 @@ fn perform<T: Threads + Wait + Clock + Files + Sync, R: Source, W: Sink, E: Writ
                 reader,
                 writer,
                 errors,
-                screen,
+                &mut line,
             );
         }
-        Subcommand::Shrink(what) => return shrink(alloc, what, reader, writer, errors),
+        Subcommand::Shrink(what, Some(file)) => {
+            return shrink_at(rt, alloc, file, what, reader, writer, errors);
+        }
+        Subcommand::Shrink(what, None) => return shrink(alloc, what, reader, writer, errors),
         Subcommand::Tree(order, asked) => {
             let outcome = tree(alloc, reader, writer, *order, *asked);
             return report_tree(errors, &reader.seen, outcome);
@@ -614,7 +416,7 @@ fn perform<T: Threads + Wait + Clock + Files + Sync, R: Source, W: Sink, E: Writ
         Subcommand::Linearize(histories, limit, recorded) => {
             let limit = *limit as usize;
             return linearize(
-                rt, alloc, *histories, limit, *recorded, reader, writer, errors, screen,
+                rt, alloc, *histories, limit, *recorded, reader, writer, errors, &mut line,
             );
         }
         Subcommand::Explain(first, second) => explain(alloc, writer, *first, *second),
@@ -632,10 +434,12 @@ fn perform<T: Threads + Wait + Clock + Files + Sync, R: Source, W: Sink, E: Writ
             return report_schedule(errors, &reader.seen, outcome);
         }
         Subcommand::Threads(journal) => {
-            let outcome = threads_shown(rt, alloc, reader, writer, *journal, screen);
+            let outcome = threads(rt, alloc, reader, writer, *journal, screen);
+            screen.erase();
             return report(errors, &reader.seen, outcome);
         }
     };
+    line.erase();
     report(errors, &reader.seen, outcome.map_err(ThreadsFault::Run))
 }
 

@@ -197,7 +197,11 @@ pub struct Line<'a, C: Clock> {
 impl<'a, C: Clock> Line<'a, C> {
     /// Before the first run. Nothing is shown yet.
     pub fn new(clock: &'a C, screen: &'a Screen) -> Line<'a, C> {
-        let began = milliseconds(clock);
+        let began = if screen.is_terminal {
+            milliseconds(clock)
+        } else {
+            0
+        };
         Line {
             screen,
             clock,
@@ -211,8 +215,16 @@ impl<'a, C: Clock> Line<'a, C> {
         }
     }
 
-    /// How many milliseconds have gone, where it is time to show the line.
+    /// Erases the line, if it is shown.
+    pub fn erase(&self) {
+        self.screen.erase();
+    }
+
+    /// How many milliseconds have gone, if it is time to show the line. Without a terminal it never is, and the clock is not read.
     fn is_time(&mut self) -> Option<u64> {
+        if !self.screen.is_terminal {
+            return None;
+        }
         let now = milliseconds(self.clock);
         let gone = now.saturating_sub(self.began);
         if gone < FIRST || now.saturating_sub(self.shown) < BETWEEN {
@@ -357,7 +369,7 @@ impl<'a> SharedLine<'a> {
 
 impl<'a> Gate for SharedLine<'a> {
     fn after<R: Wait + Clock>(&self, rt: &R, stepped: &Stepped) {
-        if !matches!(stepped, Stepped::Returned(_)) {
+        if !self.screen.is_terminal || !matches!(stepped, Stepped::Returned(_)) {
             return;
         }
         let before = self.returned.fetch_add(1, Ordering::SeqCst);

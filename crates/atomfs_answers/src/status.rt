@@ -3,7 +3,7 @@
 ghost use Rattle.std.specs.Prelude.{◌≡◌, ◌≢◌, ◌⊎◌};
 ghost use Rattle.std.specs.IoError.{error_kind};
 ghost use Rattle.clap.specs.Values.{kind_of};
-ghost use Rattle.atomfs_answers.specs.Statuses.{has_status, status_of, status_of_asserted, status_of_checked, status_of_drawn, status_of_found, status_of_learned, status_of_learning, status_of_linearized, status_of_many, status_of_minimized, status_of_outcome, status_of_outcomes, status_of_replayed, status_of_run, status_of_scheduled, status_of_shrunk, status_of_started, status_of_table, status_of_traced, status_of_verdict, status_of_words};
+ghost use Rattle.atomfs_answers.specs.Statuses.{has_status, status_of, status_of_asserted, status_of_asserted_from, status_of_checked, status_of_drawn, status_of_found, status_of_found_from, status_of_learned, status_of_learning, status_of_linearized, status_of_many, status_of_minimized, status_of_outcome, status_of_outcomes, status_of_replayed, status_of_run, status_of_scheduled, status_of_seed, status_of_left, status_of_shrunk, status_of_shrunk_from, status_of_started, status_of_table, status_of_traced, status_of_verdict, status_of_words};
 ghost use Rattle.fs_sched.specs.Faults.{status_of_fault};
 
 use crate::input::words_of;
@@ -15,9 +15,9 @@ use fs_linearize_dialects::{DialectFault, TableFault};
 use fs_linearize_minimal::Minimized;
 use fs_linearize_text::{Histories, Learned, Learning, Linearized, Outcome};
 use fs_sched::{Checked, RunEnd, RunFault};
-use fs_sched_find::{FindFault, WhatFault};
-use fs_sched_outcomes::{Assertion, Quantifier, all_hold};
-use fs_sched_shrink::{Shrunk, TRIAL_LIMIT};
+use fs_sched_find::{FindFault, SearchFault, WhatFault};
+use fs_sched_outcomes::{Assertion, OutcomesFault, Quantifier, all_hold};
+use fs_sched_shrink::{ShrinkFault, Shrunk, TRIAL_LIMIT};
 use fs_sched_start::StartFault;
 use fs_sched_threads::ThreadsFault;
 use fs_trace::ScheduleFault;
@@ -270,8 +270,19 @@ pub fn report_learned<E: Write>(
     status_of_learning(told.outcome)
 }
 
-/// The status of a run from the tree in a file, or of its fault, whose message is written. A fault of the tree comes
-/// after the name of the file, of which this was read.
+/// Writes the message of a fault of runs from the tree in a file. A fault of the tree comes after the name of the file, of which this
+/// was read.
+fn tell_start<E: Write>(errors: &mut E, seen: &Seen, file: &str, tree: &Seen, fault: &StartFault) {
+    match fault {
+        StartFault::Tree(of_tree) => {
+            let _ = writeln!(errors, "atomfs: {file}: {fault}");
+            tell(errors, tree.about(*of_tree, true).as_slice());
+        }
+        StartFault::Run(_) => tell_fault(errors, seen, fault),
+    }
+}
+
+/// The status of runs from the tree in a file, or of their fault, whose message is written.
 pub fn report_from<E: Write>(
     errors: &mut E,
     seen: &Seen,
@@ -285,13 +296,7 @@ pub fn report_from<E: Write>(
         Ok(status) => return status,
         Err(fault) => fault,
     };
-    match fault {
-        StartFault::Tree(of_tree) => {
-            let _ = writeln!(errors, "atomfs: {file}: {fault}");
-            tell(errors, tree.about(of_tree, true).as_slice());
-        }
-        StartFault::Run(_) => tell_fault(errors, seen, &fault),
-    }
+    tell_start(errors, seen, file, tree, &fault);
     fault.status()
 }
 
@@ -352,6 +357,25 @@ pub fn report_schedule<E: Write>(
     fault.status()
 }
 
+/// Writes what a search of so many runs from a number on found, and answers the status.
+fn tell_found<E: Write>(errors: &mut E, seed: u64, runs: u64, found: Option<u64>) -> u8
+    ensures { result ≡ status_of_seed found }
+{
+    match found {
+        Some(found) => {
+            let _ = writeln!(errors, "atomfs: seed {found}");
+            0
+        }
+        None => {
+            let _ = writeln!(
+                errors,
+                "atomfs: no run of {runs} from seed {seed} on has it"
+            );
+            1
+        }
+    }
+}
+
 /// The status of a search of so many runs from a number on, or of its fault, whose message is written. What was found
 /// is reported too.
 pub fn report_find<E: Write>(
@@ -364,20 +388,35 @@ pub fn report_find<E: Write>(
     ensures { result ≡ status_of_found outcome }
 {
     let fault = match outcome {
-        Ok(Some(found)) => {
-            let _ = writeln!(errors, "atomfs: seed {found}");
-            return 0;
-        }
-        Ok(None) => {
-            let _ = writeln!(
-                errors,
-                "atomfs: no run of {runs} from seed {seed} on has it"
-            );
-            return 1;
-        }
+        Ok(found) => return tell_found(errors, seed, runs, found),
         Err(fault) => fault,
     };
     tell_fault(errors, seen, &fault);
+    fault.status()
+}
+
+/// The same of runs from the tree in a file.
+pub fn report_find_from<E: Write>(
+    errors: &mut E,
+    seen: &Seen,
+    file: &str,
+    tree: &Seen,
+    seed: u64,
+    runs: u64,
+    outcome: Result<Option<u64>, SearchFault>,
+) -> u8
+    ensures { result ≡ status_of_found_from outcome }
+{
+    let fault = match outcome {
+        Ok(found) => return tell_found(errors, seed, runs, found),
+        Err(fault) => fault,
+    };
+    match &fault {
+        SearchFault::Start(start) => tell_start(errors, seen, file, tree, start),
+        _ => {
+            let _ = writeln!(errors, "atomfs: {fault}");
+        }
+    }
     fault.status()
 }
 
@@ -439,6 +478,35 @@ pub fn report_asserted<E: Write>(
     fault.status()
 }
 
+/// The same of assertions on runs from the tree in a file.
+pub fn report_asserted_from<E: Write>(
+    errors: &mut E,
+    seen: &Seen,
+    file: &str,
+    tree: &Seen,
+    asserts: &[Assertion<'_>],
+    seed: u64,
+    runs: u64,
+    outcome: Result<Vec<Option<u64>>, OutcomesFault>,
+) -> u8
+    ensures { result ≡ status_of_asserted_from asserts.now outcome }
+{
+    let fault = match outcome {
+        Ok(decided) => {
+            tell_all_broken(errors, asserts, &decided, seed, runs);
+            return status_of_verdict(all_hold(asserts, &decided));
+        }
+        Err(fault) => fault,
+    };
+    match &fault {
+        OutcomesFault::Start(start) => tell_start(errors, seen, file, tree, start),
+        OutcomesFault::NoCall => {
+            let _ = writeln!(errors, "atomfs: {fault}");
+        }
+    }
+    fault.status()
+}
+
 /// Writes what is left of a script, and whether more could go.
 fn tell_shrunk<E: Write>(errors: &mut E, shrunk: &Shrunk) {
     let _ = write!(
@@ -456,6 +524,22 @@ fn tell_shrunk<E: Write>(errors: &mut E, shrunk: &Shrunk) {
     }
 }
 
+/// Writes what is left of a script, if its run has what is said, and answers the status.
+fn tell_left<E: Write>(errors: &mut E, shrunk: Option<Shrunk>) -> u8
+    ensures { result ≡ status_of_left shrunk }
+{
+    match shrunk {
+        Some(shrunk) => {
+            tell_shrunk(errors, &shrunk);
+            0
+        }
+        None => {
+            let _ = writeln!(errors, "atomfs: its run does not have it");
+            1
+        }
+    }
+}
+
 /// The status of shrinking a script, or of its fault, whose message is written. What is left is reported too.
 pub fn report_shrink<E: Write>(
     errors: &mut E,
@@ -465,17 +549,33 @@ pub fn report_shrink<E: Write>(
     ensures { result ≡ status_of_shrunk outcome }
 {
     let fault = match outcome {
-        Ok(Some(shrunk)) => {
-            tell_shrunk(errors, &shrunk);
-            return 0;
-        }
-        Ok(None) => {
-            let _ = writeln!(errors, "atomfs: its run does not have it");
-            return 1;
-        }
+        Ok(shrunk) => return tell_left(errors, shrunk),
         Err(fault) => fault,
     };
     tell_fault(errors, seen, &fault);
+    fault.status()
+}
+
+/// The same of runs from the tree in a file.
+pub fn report_shrink_from<E: Write>(
+    errors: &mut E,
+    seen: &Seen,
+    file: &str,
+    tree: &Seen,
+    outcome: Result<Option<Shrunk>, ShrinkFault>,
+) -> u8
+    ensures { result ≡ status_of_shrunk_from outcome }
+{
+    let fault = match outcome {
+        Ok(shrunk) => return tell_left(errors, shrunk),
+        Err(fault) => fault,
+    };
+    match &fault {
+        ShrinkFault::Start(start) => tell_start(errors, seen, file, tree, start),
+        _ => {
+            let _ = writeln!(errors, "atomfs: {fault}");
+        }
+    }
     fault.status()
 }
 

@@ -1,5 +1,6 @@
 -- What the command line asks for.
-use Rattle.std.specs.Prelude.{ℕ, ◌≡◌, ◌≤◌, ◌<◌, ◌^◌, Bool, true, false, not, ◌&&◌, if◌then◌else◌, List, [], ◌++◌, map, Option, Some, None, codes}
+use Rattle.std.specs.Prelude.{ℕ, ◌≡◌, ◌≤◌, ◌<◌, ◌^◌, Bool, true, false, not, ◌&&◌, if◌then◌else◌, List, [], ◌++◌, map, option_map, Option, Some, None, codes}
+use Rattle.std.specs.Borrow.{Bor}
 use Rattle.std.specs.Str.{bytes_eq}
 use Rattle.std.specs.Str.Parse.{IsNumeral, digits_value, without_leading_plus}
 use Rattle.clap.specs.Matches.{matched_of, one_text, raw_values}
@@ -29,11 +30,11 @@ use Rattle.atomfs_arguments.specs.declared.subcommand.Subcommand.TheVariants.{Ru
 -- the word by which a subcommand is asked for
 abbrev pub name_of : Subcommand → List ℕ
 name_of (Run schedule from) = codes "run"
-name_of (Seeds seed runs format) = codes "seeds"
-name_of (Outcomes seed runs form) = codes "outcomes"
+name_of (Seeds seed runs format from) = codes "seeds"
+name_of (Outcomes seed runs form from) = codes "outcomes"
 name_of (AddedOutcomes form) = codes "outcomes"
-name_of (Find what seed runs format) = codes "find"
-name_of (Shrink what) = codes "shrink"
+name_of (Find what seed runs format from) = codes "find"
+name_of (Shrink what from) = codes "shrink"
 name_of (Tree schedule asked) = codes "tree"
 name_of (Threads journal) = codes "threads"
 name_of (Check format) = codes "check"
@@ -46,11 +47,11 @@ name_of (Explain first second) = codes "explain"
 -- the numbers of drawn runs, and the limit of a search, are within their ranges
 abbrev pub IsWithin : Subcommand → Type 0
 IsWithin (Run schedule from) = Unit {0}
-IsWithin (Seeds seed runs format) = (seed ≤ SEED_LIMIT) × (1 ≤ runs) × (runs ≤ RUN_LIMIT)
-IsWithin (Outcomes seed runs form) = (seed ≤ SEED_LIMIT) × (1 ≤ runs) × (runs ≤ OUTCOME_LIMIT)
+IsWithin (Seeds seed runs format from) = (seed ≤ SEED_LIMIT) × (1 ≤ runs) × (runs ≤ RUN_LIMIT)
+IsWithin (Outcomes seed runs form from) = (seed ≤ SEED_LIMIT) × (1 ≤ runs) × (runs ≤ OUTCOME_LIMIT)
 IsWithin (AddedOutcomes form) = Unit {0}
-IsWithin (Find what seed runs format) = (seed ≤ SEED_LIMIT) × (1 ≤ runs) × (runs ≤ SEARCH_LIMIT)
-IsWithin (Shrink what) = Unit {0}
+IsWithin (Find what seed runs format from) = (seed ≤ SEED_LIMIT) × (1 ≤ runs) × (runs ≤ SEARCH_LIMIT)
+IsWithin (Shrink what from) = Unit {0}
 IsWithin (Tree schedule asked) = Unit {0}
 IsWithin (Threads journal) = Unit {0}
 IsWithin (Check format) = Unit {0}
@@ -138,23 +139,41 @@ said_by found quantifier = map (λ text. (quantifier, text)) (values_in (matched
 abbrev pub all_said : Found → List (Quantifier × List ℕ)
 all_said found = (said_by found Never ++ said_by found Always) ++ said_by found Sometimes
 
--- a search of this, from this number on, in so many runs, written so
-abbrev pub IsSearch : List ℕ → ℕ → ℕ → Format → Subcommand → Type 0
-IsSearch text first most wanted (Find what seed runs format) = (what.now ≡ text) × (seed ≡ first) × (runs ≡ most) × (format ≡ wanted)
-IsSearch text first most wanted other = ⊥
+-- drawn runs from this number on, so many, written so, from the tree in the file that is named
+abbrev pub IsSeeds : Option (List ℕ) → ℕ → ℕ → Format → Subcommand → Type 0
+IsSeeds file first most wanted (Seeds seed runs format from) = (option_map (λ (word : Bor (List ℕ)). word.now) from ≡ file) × (seed ≡ first) × (runs ≡ most) × (format ≡ wanted)
+IsSeeds file first most wanted other = ⊥
 
-abbrev pub SearchesFor : List ℕ → ℕ → ℕ → Format → Option Subcommand → Type 0
-SearchesFor text first most wanted (Some subcommand) = IsSearch text first most wanted subcommand
-SearchesFor text first most wanted None = ⊥
+abbrev pub DrawsRuns : Option (List ℕ) → ℕ → ℕ → Format → Option Subcommand → Type 0
+DrawsRuns file first most wanted (Some subcommand) = IsSeeds file first most wanted subcommand
+DrawsRuns file first most wanted None = ⊥
 
--- a script is to shrink to what has this
-abbrev pub IsShrink : List ℕ → Subcommand → Type 0
-IsShrink text (Shrink what) = what.now ≡ text
-IsShrink text other = ⊥
+-- the same of the ends of drawn runs
+abbrev pub IsOutcomes : Option (List ℕ) → ℕ → ℕ → Form → Subcommand → Type 0
+IsOutcomes file first most wanted (Outcomes seed runs form from) = (option_map (λ (word : Bor (List ℕ)). word.now) from ≡ file) × (seed ≡ first) × (runs ≡ most) × (form ≡ wanted)
+IsOutcomes file first most wanted other = ⊥
 
-abbrev pub ShrinksFor : List ℕ → Option Subcommand → Type 0
-ShrinksFor text (Some subcommand) = IsShrink text subcommand
-ShrinksFor text None = ⊥
+abbrev pub CountsEnds : Option (List ℕ) → ℕ → ℕ → Form → Option Subcommand → Type 0
+CountsEnds file first most wanted (Some subcommand) = IsOutcomes file first most wanted subcommand
+CountsEnds file first most wanted None = ⊥
+
+-- a search of this, from this number on, in so many runs, written so, from the tree in the file that is named
+abbrev pub IsSearch : Option (List ℕ) → List ℕ → ℕ → ℕ → Format → Subcommand → Type 0
+IsSearch file text first most wanted (Find what seed runs format from) = (option_map (λ (word : Bor (List ℕ)). word.now) from ≡ file) × (what.now ≡ text) × (seed ≡ first) × (runs ≡ most) × (format ≡ wanted)
+IsSearch file text first most wanted other = ⊥
+
+abbrev pub SearchesFor : Option (List ℕ) → List ℕ → ℕ → ℕ → Format → Option Subcommand → Type 0
+SearchesFor file text first most wanted (Some subcommand) = IsSearch file text first most wanted subcommand
+SearchesFor file text first most wanted None = ⊥
+
+-- a script is to shrink to what has this, from the tree in the file that is named
+abbrev pub IsShrink : Option (List ℕ) → List ℕ → Subcommand → Type 0
+IsShrink file text (Shrink what from) = (option_map (λ (word : Bor (List ℕ)). word.now) from ≡ file) × (what.now ≡ text)
+IsShrink file text other = ⊥
+
+abbrev pub ShrinksFor : Option (List ℕ) → List ℕ → Option Subcommand → Type 0
+ShrinksFor file text (Some subcommand) = IsShrink file text subcommand
+ShrinksFor file text None = ⊥
 
 -- a trace of every event, or of those with news, is written so
 abbrev pub TracesSo : Bool → Format → Subcommand → Type 0

@@ -3,7 +3,7 @@
 ghost use Rattle.std.specs.Prelude.{◌≡◌, ◌≤◌, ◌++◌, ℕ, Bool, List, map, is_some, option_map, true, false, Some, None, IfSome, IfOk, OnOk, codes};
 ghost use Rattle.std.specs.Option.{ForSome};
 ghost use Rattle.clap.specs.Matches.{first_value, found_of, one_text, subcommand_name_of};
-ghost use Rattle.atomfs_arguments.specs.Commands.{AreNumbersOf, AsksBefore, AsksWho, IsFlagOf, IsFormOf, IsFormatOf, IsNumberOf, IsSomePicture, IsViewOf, IsWithin, SearchesFor, ShrinksFor, TracesSo, all_said, color_named, is_on, name_of, said, said_by};
+ghost use Rattle.atomfs_arguments.specs.Commands.{AreNumbersOf, AsksBefore, AsksWho, IsFlagOf, IsFormOf, IsFormatOf, IsNumberOf, IsSomePicture, IsViewOf, IsWithin, SearchesFor, ShrinksFor, TracesSo, CountsEnds, DrawsRuns, all_said, color_named, is_on, name_of, said, said_by};
 ghost use Rattle.fs_explain.specs.Topics.{word_of};
 
 use clap::ArgMatches;
@@ -79,16 +79,16 @@ pub enum Drawing {
 pub enum Subcommand<'a> {
     /// A run of a script by a schedule; and the file that has the tree at which it starts, where that is more than the root.
     Run(Schedule, Option<&'a str>),
-    /// Runs of a script that are drawn from a number, the next one, and so on: the number, and how many.
-    Seeds(u64, u64, Format),
+    /// Runs of a script that are drawn from a number, the next one, and so on: the number, and how many; and the file with their tree.
+    Seeds(u64, u64, Format, Option<&'a str>),
     /// The ends of such runs, how often each came, and what is written of them.
-    Outcomes(u64, u64, Form),
+    Outcomes(u64, u64, Form, Option<&'a str>),
     /// The same, added up from lines of pieces.
     AddedOutcomes(Form),
     /// The first of so many such runs that has what is said.
-    Find(&'a str, u64, u64, Format),
+    Find(&'a str, u64, u64, Format, Option<&'a str>),
     /// A script without what its run does not need for what is said.
-    Shrink(&'a str),
+    Shrink(&'a str, Option<&'a str>),
     /// What is asked of the trees of a journal, or of a script's run by a schedule.
     Tree(Schedule, Asked<'a>),
     /// The calls of a script on real threads; and whether their journal is written.
@@ -233,11 +233,14 @@ fn seeds_of<'a>(matches: &ArgMatches<'a>) -> Option<Subcommand<'a>>
     ensures within { ForSome result IsWithin }
     ensures name { IfSome result (λ command. name_of command ≡ codes "seeds") }
     ensures some { (seed runs : ℕ) (format : Format) → AreNumbersOf (found_of matches.now) RUN_LIMIT seed runs → IsFormatOf (found_of matches.now) format
-        → result ≡ Some (Subcommand.Seeds seed runs format) }
+        → DrawsRuns (first_value (found_of matches.now) (codes "from")) seed runs format result }
 {
     let format = format_of(matches);
     match numbers_of(matches, RUN_LIMIT) {
-        Some(numbers) => Some(Subcommand::Seeds(numbers.0, numbers.1, format)),
+        Some(numbers) => {
+            let from = matches.get_str("from");
+            Some(Subcommand::Seeds(numbers.0, numbers.1, format, from))
+        }
         None => None,
     }
 }
@@ -266,14 +269,18 @@ fn outcomes_of<'a>(matches: &ArgMatches<'a>) -> Option<Subcommand<'a>>
     ensures added { (form : Form) → IsFlagOf (found_of matches.now) (codes "add") true → IsFormOf (found_of matches.now) form
         → result ≡ Some (Subcommand.AddedOutcomes form) }
     ensures some { (seed runs : ℕ) (form : Form) → IsFlagOf (found_of matches.now) (codes "add") false → IsFormOf (found_of matches.now) form
-        → AreNumbersOf (found_of matches.now) OUTCOME_LIMIT seed runs → result ≡ Some (Subcommand.Outcomes seed runs form) }
+        → AreNumbersOf (found_of matches.now) OUTCOME_LIMIT seed runs
+        → CountsEnds (first_value (found_of matches.now) (codes "from")) seed runs form result }
 {
     let form = form_of(matches);
     if flag_given(matches, "add") {
         return Some(Subcommand::AddedOutcomes(form));
     }
     match numbers_of(matches, OUTCOME_LIMIT) {
-        Some(numbers) => Some(Subcommand::Outcomes(numbers.0, numbers.1, form)),
+        Some(numbers) => {
+            let from = matches.get_str("from");
+            Some(Subcommand::Outcomes(numbers.0, numbers.1, form, from))
+        }
         None => None,
     }
 }
@@ -322,14 +329,17 @@ fn find_of<'a>(matches: &ArgMatches<'a>) -> Option<Subcommand<'a>>
     ensures within { ForSome result IsWithin }
     ensures name { IfSome result (λ command. name_of command ≡ codes "find") }
     ensures some { (text : List ℕ) (seed runs : ℕ) (format : Format) → first_value (found_of matches.now) (codes "where") ≡ Some text
-        → AreNumbersOf (found_of matches.now) SEARCH_LIMIT seed runs → IsFormatOf (found_of matches.now) format → SearchesFor text seed runs format result }
+        → AreNumbersOf (found_of matches.now) SEARCH_LIMIT seed runs → IsFormatOf (found_of matches.now) format → SearchesFor (first_value (found_of matches.now) (codes "from")) text seed runs format result }
 {
     let format = format_of(matches);
     let Some(what) = matches.get_str("where") else {
         return None;
     };
     match numbers_of(matches, SEARCH_LIMIT) {
-        Some(numbers) => Some(Subcommand::Find(what, numbers.0, numbers.1, format)),
+        Some(numbers) => {
+            let from = matches.get_str("from");
+            Some(Subcommand::Find(what, numbers.0, numbers.1, format, from))
+        }
         None => None,
     }
 }
@@ -338,10 +348,11 @@ fn find_of<'a>(matches: &ArgMatches<'a>) -> Option<Subcommand<'a>>
 fn shrink_of<'a>(matches: &ArgMatches<'a>) -> Option<Subcommand<'a>>
     ensures within { ForSome result IsWithin }
     ensures name { IfSome result (λ command. name_of command ≡ codes "shrink") }
-    ensures some { (text : List ℕ) → first_value (found_of matches.now) (codes "where") ≡ Some text → ShrinksFor text result }
+    ensures some { (text : List ℕ) → first_value (found_of matches.now) (codes "where") ≡ Some text
+        → ShrinksFor (first_value (found_of matches.now) (codes "from")) text result }
 {
     match matches.get_str("where") {
-        Some(what) => Some(Subcommand::Shrink(what)),
+        Some(what) => Some(Subcommand::Shrink(what, matches.get_str("from"))),
         None => None,
     }
 }

@@ -117,6 +117,14 @@ const COLOR: Argument = Argument {
     help: "When words are in colours. Without it, or with auto, on a terminal, unless NO_COLOR is set",
 };
 
+const FROM: Argument = Argument {
+    name: "from",
+    form: Form::Text("TREE"),
+    need: Need::Never,
+    conflicts: &[],
+    help: "Starts at the tree in the file TREE: a tree text, or the start tree of a journal",
+};
+
 const WHERE: Argument = Argument {
     name: "where",
     form: Form::Text("WHAT"),
@@ -154,19 +162,7 @@ const RUN: Row = Row {
     about: "Runs a script and writes its journal, its tree and its counts",
     usage: "atomfs run [OPTIONS] [FILE]",
     statuses: RUN_STATUSES,
-    arguments: &[
-        ROBIN,
-        SEED,
-        Argument {
-            name: "from",
-            form: Form::Text("TREE"),
-            need: Need::Never,
-            conflicts: &[],
-            help: "Starts at the tree in the file TREE: a tree text, or the start tree of a journal",
-        },
-        COLOR,
-        FILE,
-    ],
+    arguments: &[ROBIN, SEED, FROM, COLOR, FILE],
 };
 
 const SEEDS: Row = Row {
@@ -183,6 +179,7 @@ const SEEDS: Row = Row {
             conflicts: &[],
             help: "How many runs, with the seeds N, N + 1, and so on, 1 to 10000",
         },
+        FROM,
         JSON,
         COLOR,
         FILE,
@@ -208,6 +205,13 @@ const OUTCOMES: Row = Row {
             need: Need::Unless("add"),
             conflicts: &["add"],
             help: "How many runs, with the seeds N, N + 1, and so on, 1 to 1000000",
+        },
+        Argument {
+            name: "from",
+            form: Form::Text("TREE"),
+            need: Need::Never,
+            conflicts: &["add"],
+            help: "Starts at the tree in the file TREE: a tree text, or the start tree of a journal",
         },
         Argument {
             name: "trees",
@@ -254,6 +258,7 @@ const FIND: Row = Row {
             conflicts: &[],
             help: "At most so many runs, with the seeds N, N + 1, and so on, 1 to 1000000",
         },
+        FROM,
         JSON,
         FILE,
     ],
@@ -262,9 +267,9 @@ const FIND: Row = Row {
 const SHRINK: Row = Row {
     name: "shrink",
     about: "Cuts calls and words of a script while its run still has WHAT, and writes what is left",
-    usage: "atomfs shrink --where <WHAT> [FILE]",
+    usage: "atomfs shrink --where <WHAT> [OPTIONS] [FILE]",
     statuses: SHRINK_STATUSES,
-    arguments: &[WHERE, FILE],
+    arguments: &[WHERE, FROM, FILE],
 };
 
 const TREE: Row = Row {

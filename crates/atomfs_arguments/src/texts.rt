@@ -22,7 +22,7 @@ Exit status:
   0  every run is lawful
   1  a run has a fault
   2  usage error
-  3  the input is no script: `atomfs explain` says what to write instead
+  3  the input is no script, or the file no tree: `atomfs explain` says what to write instead
   4  out of memory, or no node number left
   5  a read or a write failed
 
@@ -39,8 +39,8 @@ Exit status:
   0  success; what is asserted of the runs holds
   1  what is asserted of them does not hold
   2  usage error, or the script does not have a call that is named
-  3  the input is no script, or with --add no lines of `outcomes --all`: `atomfs explain` says what to write instead
-  4  out of memory
+  3  the input is no script, or the file no tree, or with --add no lines of `outcomes --all`: `atomfs explain` says what to write instead
+  4  out of memory, or no node number left
   5  a read or a write failed
 
 Examples:
@@ -61,7 +61,7 @@ Exit status:
   0  success: a run of what is written has it, and the seed is on standard error
   1  no run has it
   2  usage error, or the script has no such call
-  3  the input is no script: `atomfs explain` says what to write instead
+  3  the input is no script, or the file no tree: `atomfs explain` says what to write instead
   4  out of memory, no node number left, or more events than a script gives
   5  a read or a write failed
 
@@ -75,7 +75,7 @@ Exit status:
   0  success: the run of what is written has WHAT
   1  the script's run does not have it; or a checkpoint found pending calls
   2  usage error, or the script has no such call
-  3  the input is no script: `atomfs explain` says what to write instead
+  3  the input is no script, or the file no tree: `atomfs explain` says what to write instead
   4  out of memory, or no node number left
   5  a read or a write failed
 

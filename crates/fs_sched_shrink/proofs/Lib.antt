@@ -5,4 +5,3 @@ mod Lines
 mod Counting
 mod Starting
 mod Going
-mod Ending

@@ -6,8 +6,9 @@ use Rattle.fs_calls.specs.declared.call.Call.{Call}
 use Rattle.fs_script.specs.Limits.{calls_in}
 use Rattle.fs_script.specs.Script.{seat_named}
 use Rattle.fs_script.specs.declared.script.Script.{Script}
+use Rattle.fs_sched.specs.declared.origin.Origin.{Origin}
 use Rattle.fs_sched.specs.declared.schedule.Schedule.TheVariants.{Given}
-use Rattle.fs_sched_find.specs.Finds.{RunHas}
+use Rattle.fs_sched_find.specs.Finds.{RunHasOn}
 use Rattle.fs_sched_find.specs.What.{is_place, is_there, has_calls, clauses_name_calls, names_calls}
 use Rattle.fs_sched_find.specs.declared.what.CallName.{CallName}
 use Rattle.fs_sched_find.specs.declared.what.Condition.{Condition}
@@ -15,7 +16,7 @@ use Rattle.fs_sched_find.specs.declared.what.Condition.TheVariants.{Reply, Fails
 use Rattle.fs_sched_find.specs.declared.what.Clause.{Clause}
 use Rattle.fs_sched_shrink.specs.Kept.{picked, kept_lists, kept_script, items_in}
 use Rattle.fs_sched_shrink.specs.Moves.{kept_count, calls_before, place_at, moved_call, moved_condition, moved_clauses, moved}
-use Rattle.fs_sched_shrink.specs.Shrinks.{IsShrunk}
+use Rattle.fs_sched_shrink.specs.Shrinks.{IsShrunkOn}
 
 -- ---- the script
 
@@ -92,13 +93,13 @@ moved_whole script n (clauses ∷ what) h there =
 
 -- ---- where nothing was cut yet
 
-pub all_stay : (script : Script) (what : List (List Clause)) (kept : List Bool) → kept ≡ replicate (calls_in script.lists) true ++ replicate (length script.words) true → names_calls script what ≡ true → RunHas Given script what true → IsShrunk script what kept
-all_stay script what kept e there has =
+pub all_stay : (from : Origin) (script : Script) (what : List (List Clause)) (kept : List Bool) → kept ≡ replicate (calls_in script.lists) true ++ replicate (length script.words) true → names_calls script what ≡ true → RunHasOn from Given script what true → IsShrunkOn from script what kept
+all_stay from script what kept e there has =
     let n : ℕ = items_in script in
     let is : kept ≡ replicate n true = e ∙ replicate-append-replicate (calls_in script.lists) (length script.words) true in
-    subst (IsShrunk script what) (sym is) (record {
+    subst (IsShrunkOn from script what) (sym is) (record {
       sized = length-replicate n true;
       named = λ at less named. get_or-replicate n at true false (let l : length (replicate n true) ≡ n = length-replicate n true in omega (arith, less, l));
-      has = subst (λ (s : Script). RunHas Given s (moved (replicate n true) script what) true) (sym (kept_whole script))
-          (subst (λ (w : List (List Clause)). RunHas Given script w true) (sym (moved_whole script n what (omega arith) there)) has);
+      has = subst (λ (s : Script). RunHasOn from Given s (moved (replicate n true) script what) true) (sym (kept_whole script))
+          (subst (λ (w : List (List Clause)). RunHasOn from Given script w true) (sym (moved_whole script n what (omega arith) there)) has);
     })

@@ -2,4 +2,5 @@ pub mod Kept
 pub mod Moves
 pub mod Telling
 pub mod Shrinks
+pub mod Faults
 pub mod code

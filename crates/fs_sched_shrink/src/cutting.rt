@@ -4,8 +4,9 @@ ghost use Rattle.std.specs.Prelude.{◌≡◌, ◌≢◌, ◌≤◌, ◌<◌, �
 ghost use Rattle.std.specs.List.{list_any};
 ghost use Rattle.fs_script.specs.Script.{script_of};
 ghost use Rattle.fs_script.specs.Limits.{call_limit, calls_in};
+ghost use Rattle.fs_sched.specs.Origins.{CanBegin};
 ghost use Rattle.fs_sched_shrink.specs.Moves.{is_named};
-ghost use Rattle.fs_sched_shrink.specs.Shrinks.{IsKept, IsShrunk, IsSmallest};
+ghost use Rattle.fs_sched_shrink.specs.Shrinks.{IsKeptOn, IsShrunkOn, IsSmallestOn};
 ghost use Rattle.fs_sched_shrink.specs.code.Passes.{IsPass, KeepsNamed};
 ghost use Rattle.fs_sched_shrink.specs.declared.limits.TheConstants.{TRIAL_LIMIT};
 
@@ -14,6 +15,7 @@ use crate::moving::is_named;
 use crate::room::NoRoom;
 use crate::thinning::flags_behind;
 use crate::trying::is_kept;
+use fs_sched::Origin;
 use fs_sched_find::Clauses;
 use fs_script::Script;
 use std::alloc::{AllocError, Global};
@@ -35,7 +37,7 @@ fn without(
     script: &Script,
     what: &[Clauses],
     kept: &[bool],
-    from: usize,
+    first: usize,
     end: usize,
 ) -> Result<Vec<bool>, AllocError>
     requires few { calls_in script.now.lists ≤ call_limit script.now.limits }
@@ -44,7 +46,7 @@ fn without(
 {
     let mut left = Vec::new(alloc);
     for at in 0..kept.len() {
-        let stays = at < from || end <= at || is_named(script, what, at);
+        let stays = at < first || end <= at || is_named(script, what, at);
         left.push(kept[at] && stays)?;
     }
     Ok(left)
@@ -71,31 +73,33 @@ fn any_stays(kept: &[bool]) -> bool
 /// Tries whether so many from an index on can go, and lets them go where they can.
 fn cut_range(
     alloc: Global,
+    from: &Origin,
     text: &[u8],
     script: &Script,
     what: &[Clauses],
-    from: usize,
+    first: usize,
     size: usize,
     kept: &mut Vec<bool>,
     runs: &mut u64,
 ) -> Result<(), NoRoom>
     requires read { script_of text.now ≡ Ok script.now }
     requires few { calls_in script.now.lists ≤ call_limit script.now.limits }
-    requires shrunk { IsShrunk script.now what.now kept.old.items }
+    requires begins { CanBegin from.now script.now.limits }
+    requires shrunk { IsShrunkOn from.now script.now what.now kept.old.items }
     requires runs { runs.old < TRIAL_LIMIT }
-    ensures shrunk { OnOk result (IsShrunk script.now what.now kept.new.items) }
+    ensures shrunk { OnOk result (IsShrunkOn from.now script.now what.now kept.new.items) }
     ensures runs { OnOk result (runs.new ≤ TRIAL_LIMIT) }
 {
-    if !any_stays(first_flags(flags_behind(kept.as_slice(), from), size)) {
+    if !any_stays(first_flags(flags_behind(kept.as_slice(), first), size)) {
         return Ok(());
     }
-    let end = from.saturating_add(size);
-    let left = without(alloc, script, what, kept.as_slice(), from, end)?;
+    let end = first.saturating_add(size);
+    let left = without(alloc, script, what, kept.as_slice(), first, end)?;
     if left.as_slice() == kept.as_slice() {
         return Ok(());
     }
     *runs += 1;
-    if !is_kept(alloc, text, script, what, left.as_slice())? {
+    if !is_kept(alloc, from, text, script, what, left.as_slice())? {
         return Ok(());
     }
     *kept = left;
@@ -105,6 +109,7 @@ fn cut_range(
 /// Tries so many at a time, from left to right.
 fn cut_pieces(
     alloc: Global,
+    from: &Origin,
     text: &[u8],
     script: &Script,
     what: &[Clauses],
@@ -114,17 +119,18 @@ fn cut_pieces(
 ) -> Result<(), NoRoom>
     requires read { script_of text.now ≡ Ok script.now }
     requires few { calls_in script.now.lists ≤ call_limit script.now.limits }
+    requires begins { CanBegin from.now script.now.limits }
     requires some { 0 < size }
-    requires shrunk { IsShrunk script.now what.now kept.old.items }
+    requires shrunk { IsShrunkOn from.now script.now what.now kept.old.items }
     requires runs { runs.old ≤ TRIAL_LIMIT }
-    ensures shrunk { OnOk result (IsShrunk script.now what.now kept.new.items) }
+    ensures shrunk { OnOk result (IsShrunkOn from.now script.now what.now kept.new.items) }
     ensures runs { OnOk result (runs.new ≤ TRIAL_LIMIT) }
 {
     let count = kept.len();
-    let mut from = 0usize;
-    'pieces: while from < count && *runs < TRIAL_LIMIT {
-        cut_range(alloc, text, script, what, from, size, kept, runs)?;
-        from = from.saturating_add(size);
+    let mut first = 0usize;
+    'pieces: while first < count && *runs < TRIAL_LIMIT {
+        cut_range(alloc, from, text, script, what, first, size, kept, runs)?;
+        first = first.saturating_add(size);
     }
     Ok(())
 }
@@ -132,6 +138,7 @@ fn cut_pieces(
 /// Tries the half of all at a time, then the half of these, and so on.
 pub(crate) fn cut_by_halves(
     alloc: Global,
+    from: &Origin,
     text: &[u8],
     script: &Script,
     what: &[Clauses],
@@ -140,14 +147,15 @@ pub(crate) fn cut_by_halves(
 ) -> Result<(), NoRoom>
     requires read { script_of text.now ≡ Ok script.now }
     requires few { calls_in script.now.lists ≤ call_limit script.now.limits }
-    requires shrunk { IsShrunk script.now what.now kept.old.items }
+    requires begins { CanBegin from.now script.now.limits }
+    requires shrunk { IsShrunkOn from.now script.now what.now kept.old.items }
     requires runs { runs.old ≤ TRIAL_LIMIT }
-    ensures shrunk { OnOk result (IsShrunk script.now what.now kept.new.items) }
+    ensures shrunk { OnOk result (IsShrunkOn from.now script.now what.now kept.new.items) }
     ensures runs { OnOk result (runs.new ≤ TRIAL_LIMIT) }
 {
     let mut size = kept.len();
     'halves: while size > 1 {
-        cut_pieces(alloc, text, script, what, size, kept, runs)?;
+        cut_pieces(alloc, from, text, script, what, size, kept, runs)?;
         size /= 2;
     }
     Ok(())
@@ -163,6 +171,7 @@ fn set_flag(kept: &mut Vec<bool>, at: usize, flag: bool)
 /// Tries one of those that stay, and answers whether it went.
 fn cut_one(
     alloc: Global,
+    from: &Origin,
     text: &[u8],
     script: &Script,
     what: &[Clauses],
@@ -171,17 +180,18 @@ fn cut_one(
 ) -> Result<bool, NoRoom>
     requires read { script_of text.now ≡ Ok script.now }
     requires few { calls_in script.now.lists ≤ call_limit script.now.limits }
+    requires begins { CanBegin from.now script.now.limits }
     requires there { at < length kept.old.items }
     requires stays { get_or kept.old.items at false ≡ true }
     requires unnamed { is_named script.now what.now at ≡ false }
-    requires shrunk { IsShrunk script.now what.now kept.old.items }
-    ensures shrunk { OnOk result (IsShrunk script.now what.now kept.new.items) }
+    requires shrunk { IsShrunkOn from.now script.now what.now kept.old.items }
+    ensures shrunk { OnOk result (IsShrunkOn from.now script.now what.now kept.new.items) }
     ensures sized { length kept.new.items ≡ length kept.old.items }
     ensures cannot { IfOk result (λ went. went ≡ false
-        → (kept.new.items ≡ kept.old.items) × IsKept script.now what.now (slice_set kept.old.items at false) false) }
+        → (kept.new.items ≡ kept.old.items) × IsKeptOn from.now script.now what.now (slice_set kept.old.items at false) false) }
 {
     set_flag(kept, at, false);
-    let still = is_kept(alloc, text, script, what, kept.as_slice())?;
+    let still = is_kept(alloc, from, text, script, what, kept.as_slice())?;
     if still {
         return Ok(true);
     }
@@ -210,6 +220,7 @@ fn pass_behind(pass: Pass, went: bool) -> Pass
 /// Tries each on its own, from left to right.
 fn cut_each(
     alloc: Global,
+    from: &Origin,
     text: &[u8],
     script: &Script,
     what: &[Clauses],
@@ -218,10 +229,11 @@ fn cut_each(
 ) -> Result<Pass, NoRoom>
     requires read { script_of text.now ≡ Ok script.now }
     requires few { calls_in script.now.lists ≤ call_limit script.now.limits }
-    requires shrunk { IsShrunk script.now what.now kept.old.items }
+    requires begins { CanBegin from.now script.now.limits }
+    requires shrunk { IsShrunkOn from.now script.now what.now kept.old.items }
     requires runs { runs.old ≤ TRIAL_LIMIT }
-    ensures shrunk { OnOk result (IsShrunk script.now what.now kept.new.items) }
-    ensures pass { IfOk result (IsPass script.now what.now kept.new.items runs.old runs.new) }
+    ensures shrunk { OnOk result (IsShrunkOn from.now script.now what.now kept.new.items) }
+    ensures pass { IfOk result (IsPass from.now script.now what.now kept.new.items runs.old runs.new) }
 {
     let mut pass = Pass::Smallest;
     for at in 0..kept.len() {
@@ -232,7 +244,7 @@ fn cut_each(
             return Ok(Pass::Stopped);
         }
         *runs += 1;
-        let went = cut_one(alloc, text, script, what, at, kept)?;
+        let went = cut_one(alloc, from, text, script, what, at, kept)?;
         pass = pass_behind(pass, went);
     }
     Ok(pass)
@@ -241,6 +253,7 @@ fn cut_each(
 /// Tries each on its own until none can go, and answers whether it came to that; else no more runs are played.
 pub(crate) fn cut_ones(
     alloc: Global,
+    from: &Origin,
     text: &[u8],
     script: &Script,
     what: &[Clauses],
@@ -249,14 +262,15 @@ pub(crate) fn cut_ones(
 ) -> Result<bool, NoRoom>
     requires read { script_of text.now ≡ Ok script.now }
     requires few { calls_in script.now.lists ≤ call_limit script.now.limits }
-    requires shrunk { IsShrunk script.now what.now kept.old.items }
+    requires begins { CanBegin from.now script.now.limits }
+    requires shrunk { IsShrunkOn from.now script.now what.now kept.old.items }
     requires runs { runs.old ≤ TRIAL_LIMIT }
-    ensures shrunk { OnOk result (IsShrunk script.now what.now kept.new.items) }
-    ensures smallest { IfOk result (λ done. done ≡ true → IsSmallest script.now what.now kept.new.items) }
+    ensures shrunk { OnOk result (IsShrunkOn from.now script.now what.now kept.new.items) }
+    ensures smallest { IfOk result (λ done. done ≡ true → IsSmallestOn from.now script.now what.now kept.new.items) }
     ensures stopped { IfOk result (λ done. done ≡ false → runs.new ≡ TRIAL_LIMIT) }
 {
     'passes: loop {
-        match cut_each(alloc, text, script, what, kept, runs)? {
+        match cut_each(alloc, from, text, script, what, kept, runs)? {
             Pass::Cut => {}
             Pass::Smallest => return Ok(true),
             Pass::Stopped => return Ok(false),

@@ -1,12 +1,11 @@
-//! Why nothing more is tried.
+//! Why nothing more is tried, and why a script was not shrunk.
 
-ghost use Rattle.std.specs.Prelude.{◌≡◌, ℕ, List};
-ghost use Rattle.fs_sched_find.specs.declared.what.Clause.{Clause};
-ghost use Rattle.fs_sched_shrink.specs.code.Mades.{IsFaultOfShrink};
+ghost use Rattle.std.specs.Prelude.{◌≡◌};
+ghost use Rattle.fs_script.specs.declared.script.Script.{Script};
+ghost use Rattle.fs_sched.specs.declared.origin.Origin.{Origin};
+ghost use Rattle.fs_sched_shrink.specs.code.Mades.{IsUnshrunk};
 
 use fs_sched::RunFault;
-use fs_sched_find::FindFault;
-use fs_trace::ScheduleFault;
 use std::alloc::AllocError;
 
 /// Why nothing more is tried.
@@ -28,16 +27,23 @@ impl From<AllocError> for NoRoom {
     }
 }
 
+/// Why a script was not shrunk.
+#[derive(Clone, Copy, Debug, PartialEq, Eq)]
+pub(crate) enum Unshrunk {
+    /// The script has no run by its own words, or an allocation failed.
+    Run(RunFault),
+    /// The text of what stays is longer than a text may be by its limits.
+    TooLong,
+}
+
 impl NoRoom {
-    /// The same as a fault of a search.
-    pub(crate) fn fault(self) -> FindFault
-        ensures { (what : List (List Clause)) (input : List ℕ) → IsFaultOfShrink what input result }
+    /// The same as why a script was not shrunk.
+    pub(crate) fn unshrunk(self) -> Unshrunk
+        ensures { (from : Origin) (script : Script) → IsUnshrunk from script result }
     {
         match self {
-            NoRoom::OutOfMemory => {
-                FindFault::Schedule(ScheduleFault::Run(RunFault::OutOfMemory))
-            }
-            NoRoom::TooLong => FindFault::Schedule(ScheduleFault::TooLong),
+            NoRoom::OutOfMemory => Unshrunk::Run(RunFault::OutOfMemory),
+            NoRoom::TooLong => Unshrunk::TooLong,
         }
     }
 }

@@ -7,25 +7,28 @@ ghost use Rattle.fs_script.specs.Script.{script_of};
 ghost use Rattle.fs_script.specs.Limits.{call_limit, calls_in};
 ghost use Rattle.fs_script.specs.declared.limits.TheConstants.{CALL_LIMIT};
 ghost use Rattle.fs_sched.specs.Devices.{KeepsDevices, WritesBeginning};
+ghost use Rattle.fs_sched.specs.Origins.{CanBegin};
 ghost use Rattle.fs_sched.specs.Runs.{ReachesStop};
+ghost use Rattle.fs_sched.specs.declared.origin.Origin.{Origin};
 ghost use Rattle.fs_sched.specs.declared.schedule.Schedule.TheVariants.{Given};
 ghost use Rattle.fs_trace.specs.declared.fault.ScheduleFault.TheVariants as schedule;
-ghost use Rattle.fs_sched_find.specs.Finds.{LacksCall, RunHas};
+ghost use Rattle.fs_sched_find.specs.Finds.{LacksCall, RunHasOn};
 ghost use Rattle.fs_sched_find.specs.What.{names_calls};
 ghost use Rattle.fs_sched_shrink.specs.Moves.{moved};
 ghost use Rattle.fs_sched_shrink.specs.Telling.{what_text};
-ghost use Rattle.fs_sched_shrink.specs.Shrinks.{IsShrinking, IsShrinkingOf, IsShrunk, IsSmallest};
-ghost use Rattle.fs_sched_shrink.specs.code.Mades.{IsFaultOfShrink, MakesShrinking};
+ghost use Rattle.fs_sched_shrink.specs.Shrinks.{IsShrinkingOf, IsShrinkingOn, IsShrunkOn, IsSmallestOn};
+ghost use Rattle.fs_sched_shrink.specs.code.Mades.{IsUnshrunk, MakesShrinking};
 ghost use Rattle.fs_sched_shrink.specs.declared.limits.TheConstants.{TRIAL_LIMIT};
 
 use crate::cutting::{cut_by_halves, cut_ones};
 use crate::moving::{calls_before, moved};
-use crate::room::NoRoom;
+use crate::room::{NoRoom, Unshrunk};
 use crate::telling::what_text;
 use crate::trying::{script_with, text_of};
-use fs_sched::{RunFault, Schedule, between, script_in};
-use fs_sched_find::{Clauses, FindFault, names_calls, run_has};
+use fs_sched::{Origin, RunFault, Schedule, between, script_in};
+use fs_sched_find::{Clauses, FindFault, names_calls, run_has_at};
 use fs_script::{CallLists, Script};
+use fs_trace::ScheduleFault;
 use fs_verdict::{Made, Sink, Source, transform};
 use std::alloc::{AllocError, Global};
 
@@ -100,10 +103,9 @@ fn with_what_stays(
 ) -> Result<Made<Option<Shrunk>>, NoRoom>
     requires read { script_of text.now ≡ Ok script.now }
     requires few { calls_in script.now.lists ≤ call_limit script.now.limits }
-    requires shrunk { IsShrunk script.now what.now kept.now }
-    requires smallest { is_smallest ≡ true → IsSmallest script.now what.now kept.now }
     requires stopped { is_smallest ≡ false → runs ≡ TRIAL_LIMIT }
-    ensures { IfOk result (λ made. IsShrinking script.now what.now made.end made.text.items) }
+    ensures { (from : Origin) → IsShrunkOn from script.now what.now kept.now → (is_smallest ≡ true → IsSmallestOn from script.now what.now kept.now)
+        → IfOk result (λ made. IsShrinkingOn from script.now what.now made.end made.text.items) }
 {
     let cut = script_with(alloc, text, kept)?;
     let said = said_of(alloc, script, what, kept)?;
@@ -121,9 +123,10 @@ fn with_what_stays(
     })
 }
 
-/// What is made of a script whose run has what is said.
-fn shrunk_from(
+/// What is made of a script whose run has what is said, by the flags of what stays.
+fn shrunk_by(
     alloc: Global,
+    from: &Origin,
     text: &[u8],
     script: &Script,
     what: &[Clauses],
@@ -131,12 +134,13 @@ fn shrunk_from(
 ) -> Result<Made<Option<Shrunk>>, NoRoom>
     requires read { script_of text.now ≡ Ok script.now }
     requires few { calls_in script.now.lists ≤ call_limit script.now.limits }
-    requires shrunk { IsShrunk script.now what.now kept.old.items }
-    ensures { IfOk result (λ made. IsShrinking script.now what.now made.end made.text.items) }
+    requires begins { CanBegin from.now script.now.limits }
+    requires shrunk { IsShrunkOn from.now script.now what.now kept.old.items }
+    ensures { IfOk result (λ made. IsShrinkingOn from.now script.now what.now made.end made.text.items) }
 {
     let mut runs = 1;
-    cut_by_halves(alloc, text, script, what, kept, &mut runs)?;
-    let is_smallest = cut_ones(alloc, text, script, what, kept, &mut runs)?;
+    cut_by_halves(alloc, from, text, script, what, kept, &mut runs)?;
+    let is_smallest = cut_ones(alloc, from, text, script, what, kept, &mut runs)?;
     with_what_stays(
         alloc,
         text,
@@ -151,47 +155,51 @@ fn shrunk_from(
 /// The same, where at first all calls and words stay.
 fn smallest(
     alloc: Global,
+    from: &Origin,
     text: &[u8],
     script: &Script,
     what: &[Clauses],
 ) -> Result<Made<Option<Shrunk>>, NoRoom>
     requires read { script_of text.now ≡ Ok script.now }
     requires few { calls_in script.now.lists ≤ call_limit script.now.limits }
+    requires begins { CanBegin from.now script.now.limits }
     requires named { names_calls script.now what.now ≡ true }
-    requires has { RunHas Schedule.Given script.now what.now true }
-    ensures { IfOk result (λ made. IsShrinking script.now what.now made.end made.text.items) }
+    requires has { RunHasOn from.now Schedule.Given script.now what.now true }
+    ensures { IfOk result (λ made. IsShrinkingOn from.now script.now what.now made.end made.text.items) }
 {
     let mut kept = all_flags(alloc, script)?;
-    shrunk_from(alloc, text, script, what, &mut kept)
+    shrunk_by(alloc, from, text, script, what, &mut kept)
 }
 
-/// What is made of a script that was read.
-fn shrink(
+/// What is made of a script that was read, whose runs begin at a tree, or at the root alone.
+pub(crate) fn shrink(
     alloc: Global,
+    from: &Origin,
     text: &[u8],
     script: &Script,
     what: &[Clauses],
-) -> Result<Made<Option<Shrunk>>, FindFault>
+) -> Result<Made<Option<Shrunk>>, Unshrunk>
     requires read { script_of text.now ≡ Ok script.now }
     requires few { calls_in script.now.lists ≤ call_limit script.now.limits }
+    requires begins { CanBegin from.now script.now.limits }
     requires named { names_calls script.now what.now ≡ true }
-    ensures made { IfOk result (λ made. IsShrinking script.now what.now made.end made.text.items) }
-    ensures fault { IfErr result (IsFaultOfShrink what.now text.now) }
+    ensures made { IfOk result (λ made. IsShrinkingOn from.now script.now what.now made.end made.text.items) }
+    ensures fault { IfErr result (IsUnshrunk from.now script.now) }
 {
-    match run_has(alloc, script, Schedule::Given, what) {
-        Ok(true) => match smallest(alloc, text, script, what) {
+    match run_has_at(alloc, from, script, Schedule::Given, what) {
+        Ok(true) => match smallest(alloc, from, text, script, what) {
             Ok(made) => Ok(made),
-            Err(room) => Err(room.fault()),
+            Err(room) => Err(room.unshrunk()),
         },
         Ok(false) => Ok(Made {
             text: Vec::new(alloc),
             end: None,
         }),
-        Err(fault) => Err(FindFault::from(fault)),
+        Err(fault) => Err(Unshrunk::Run(fault)),
     }
 }
 
-/// The same of the script that a text has.
+/// What is made of the script that a text has, whose runs begin at the root alone.
 fn shrunk_in(
     alloc: Global,
     text: &[u8],
@@ -203,7 +211,11 @@ fn shrunk_in(
     if !names_calls(&script, what) {
         return Err(FindFault::NoCall);
     }
-    shrink(alloc, text, &script, what)
+    match shrink(alloc, &Origin::Root, text, &script, what) {
+        Ok(made) => Ok(made),
+        Err(Unshrunk::Run(fault)) => Err(FindFault::Schedule(ScheduleFault::Run(fault))),
+        Err(Unshrunk::TooLong) => Err(FindFault::Schedule(ScheduleFault::TooLong)),
+    }
 }
 
 /// Reads a script to its end, and where its run by its own words has what is said, writes the script with as few of its calls and

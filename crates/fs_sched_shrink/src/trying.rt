@@ -6,15 +6,16 @@ ghost use Rattle.fs_words.specs.Headers.{is_too_long};
 ghost use Rattle.fs_script.specs.Script.{script_of};
 ghost use Rattle.fs_script.specs.Limits.{call_limit, calls_in};
 ghost use Rattle.fs_script.specs.declared.script.Script.{Script};
+ghost use Rattle.fs_sched.specs.Origins.{CanBegin};
 ghost use Rattle.fs_sched_shrink.specs.Kept.{kept_script};
-ghost use Rattle.fs_sched_shrink.specs.Shrinks.{IsTried, IsKept};
+ghost use Rattle.fs_sched_shrink.specs.Shrinks.{IsTriedOn, IsKeptOn};
 ghost use Rattle.fs_sched_shrink.specs.code.Thinning.{thinned};
 
 use crate::moving::moved;
 use crate::room::NoRoom;
 use crate::thinning::thin;
-use fs_sched::{RunFault, Schedule, script_in};
-use fs_sched_find::{Clauses, run_has};
+use fs_sched::{Origin, RunFault, Schedule, script_in};
+use fs_sched_find::{Clauses, run_has_at};
 use fs_script::Script;
 use fs_words::headers::is_too_long;
 use std::alloc::Global;
@@ -51,15 +52,17 @@ pub(crate) fn script_with(alloc: Global, text: &[u8], kept: &[bool]) -> Result<S
     }
 }
 
-/// Whether the run of a script by its own words has what is said; it has not where there is no such run.
-fn is_tried(alloc: Global, script: &Script, what: &[Clauses]) -> Result<bool, NoRoom>
-    requires { calls_in script.now.lists ≤ call_limit script.now.limits }
-    ensures { IfOk result (IsTried script.now what.now) }
+/// Whether the run of a script by its own words from a tree, or from the root alone, has what is said; it has not where there is no
+/// such run.
+fn is_tried(alloc: Global, from: &Origin, script: &Script, what: &[Clauses]) -> Result<bool, NoRoom>
+    requires few { calls_in script.now.lists ≤ call_limit script.now.limits }
+    requires begins { CanBegin from.now script.now.limits }
+    ensures { IfOk result (IsTriedOn from.now script.now what.now) }
 {
-    match run_has(alloc, script, Schedule::Given, what) {
+    match run_has_at(alloc, from, script, Schedule::Given, what) {
         Ok(true) => Ok(true),
         Ok(false) => Ok(false),
-        Err(RunFault::UnderWay(_)) => Ok(false),
+        Err(RunFault::Full | RunFault::UnderWay(_)) => Ok(false),
         Err(_) => Err(NoRoom::OutOfMemory),
     }
 }
@@ -67,6 +70,7 @@ fn is_tried(alloc: Global, script: &Script, what: &[Clauses]) -> Result<bool, No
 /// The same of a script with those of its calls and words that stay, by the text of the script.
 pub(crate) fn is_kept(
     alloc: Global,
+    from: &Origin,
     text: &[u8],
     script: &Script,
     what: &[Clauses],
@@ -74,9 +78,10 @@ pub(crate) fn is_kept(
 ) -> Result<bool, NoRoom>
     requires read { script_of text.now ≡ Ok script.now }
     requires few { calls_in script.now.lists ≤ call_limit script.now.limits }
-    ensures { IfOk result (IsKept script.now what.now kept.now) }
+    requires begins { CanBegin from.now script.now.limits }
+    ensures { IfOk result (IsKeptOn from.now script.now what.now kept.now) }
 {
     let cut = script_with(alloc, text, kept)?;
     let moved = moved(alloc, kept, script, what)?;
-    is_tried(alloc, &cut, moved.as_slice())
+    is_tried(alloc, from, &cut, moved.as_slice())
 }

@@ -1,17 +1,30 @@
 -- What is made of the text of a script, before it is written.
 use Rattle.std.specs.Prelude.{ℕ, List, Option, Result, IfOk, IfErr}
+use Rattle.fs_script.specs.declared.script.Script.{Script}
 use Rattle.fs_sched.specs.Runs.{IsFaultOfRun}
+use Rattle.fs_sched.specs.code.Done.{IsStopOn}
+use Rattle.fs_sched.specs.declared.origin.Origin.{Origin}
 use Rattle.fs_verdict.specs.declared.shell.Made.{Made}
 use Rattle.fs_sched.specs.declared.schedule.Schedule.TheVariants.{Given}
+use Rattle.fs_sched_start.specs.Starts.{IsFaultAt}
 use Rattle.fs_trace.specs.declared.fault.ScheduleFault.TheVariants.{Run, TooManyEvents, TooLong}
 use Rattle.fs_sched_find.specs.Finds.{LacksCall}
 use Rattle.fs_sched_find.specs.declared.fault.FindFault.{FindFault}
 use Rattle.fs_sched_find.specs.declared.fault.FindFault.TheVariants.{Schedule, NoCall}
 use Rattle.fs_sched_find.specs.declared.what.Clause.{Clause}
-use Rattle.fs_sched_shrink.specs.Shrinks.{IsShrinkingOf}
+use Rattle.fs_sched_shrink.specs.Shrinks.{IsShrinkingAt, IsShrinkingOf}
+use Rattle.fs_sched_shrink.specs.declared.fault.ShrinkFault.{ShrinkFault}
+use Rattle.fs_sched_shrink.specs.declared.fault.ShrinkFault.TheVariants as shrink
+use Rattle.fs_sched_shrink.specs.declared.room.Unshrunk.{Unshrunk}
+use Rattle.fs_sched_shrink.specs.declared.room.Unshrunk.TheVariants as unshrunk
 use Rattle.fs_sched_shrink.specs.declared.shrinking.Shrunk.{Shrunk}
 
--- why nothing is written of a script; what stays may be too long by the end of its last line, which the input need not have
+-- why a script was not shrunk: its own run from there stops; or what stays is too long by the end of its last line, which the input need not have
+abbrev pub IsUnshrunk : Origin → Script → Unshrunk → Type 0
+IsUnshrunk from script (unshrunk.Run fault) = IsStopOn from Given script fault
+IsUnshrunk from script unshrunk.TooLong = Unit {0}
+
+-- why nothing is written of the script that an input has
 abbrev pub IsFaultOfShrink : List (List Clause) → List ℕ → FindFault → Type 0
 IsFaultOfShrink what input (Schedule (Run fault)) = IsFaultOfRun Given input fault
 IsFaultOfShrink what input (Schedule TooManyEvents) = ⊥
@@ -22,3 +35,16 @@ IsFaultOfShrink what input NoCall = LacksCall what input
 pub record MakesShrinking (what : List (List Clause)) (input : List ℕ) (result : Result (Made (Option Shrunk)) FindFault) : Type 0 where
   pub shrunk : IfOk result (λ made. IsShrinkingOf what input made.end made.text.items)
   pub fault : IfErr result (IsFaultOfShrink what input)
+
+-- ---- from the tree that a text has
+
+-- why nothing is written
+abbrev pub IsFaultOfShrinkAt : List (List Clause) → List ℕ → List ℕ → ShrinkFault → Type 0
+IsFaultOfShrinkAt what tree input (shrink.Start fault) = IsFaultAt Given tree input fault
+IsFaultOfShrinkAt what tree input shrink.TooLong = Unit {0}
+IsFaultOfShrinkAt what tree input shrink.NoCall = LacksCall what input
+
+-- the smallest script; or why there is none
+pub record MakesShrinkingAt (what : List (List Clause)) (tree input : List ℕ) (result : Result (Made (Option Shrunk)) ShrinkFault) : Type 0 where
+  pub shrunk : IfOk result (λ made. IsShrinkingAt what tree input made.end made.text.items)
+  pub fault : IfErr result (IsFaultOfShrinkAt what tree input)

@@ -5,7 +5,7 @@ use Rattle.atomfs_arguments.proofs.subcommand.find_of.Goals as goal
 pub returns-in-Some-numbers_of-clause-some : goal.returns-in-Some-numbers_of-clause-some
 returns-in-Some-numbers_of-clause-some c text seed runs format what are is =
     let same = in_some _ _ (c.in-Some-numbers_of.ensures.some seed runs are) in
-    (in_some _ _ (c.in-Some.ensures ∙ what), ap (λ (n : ℕ × ℕ). n.0) same, ap (λ (n : ℕ × ℕ). n.1) same, c.format_of-format.ensures format is)
+    (c.get_str-from.ensures, in_some _ _ (c.in-Some.ensures ∙ what), ap (λ (n : ℕ × ℕ). n.0) same, ap (λ (n : ℕ × ℕ). n.1) same, c.format_of-format.ensures format is)
 
 pub returns-in-None-clause-some : goal.returns-in-None-clause-some
 returns-in-None-clause-some c text seed runs format what are is = let same = c.in-None.ensures.some seed runs are in absurd cc

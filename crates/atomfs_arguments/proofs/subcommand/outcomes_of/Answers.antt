@@ -1,6 +1,4 @@
-use Rattle.std.proofs.Common.{◌≡◌, ◌∙◌, ap, true, false, Some, ℕ}
-use Rattle.fs_sched_outcomes.specs.declared.lines.Form.{Form}
-use Rattle.atomfs_arguments.specs.declared.subcommand.Subcommand.TheVariants.{Outcomes}
+use Rattle.std.proofs.Common.{◌≡◌, ap, true, false, ℕ}
 use Rattle.atomfs_arguments.proofs.Somes.{in_some}
 use Rattle.atomfs_arguments.proofs.subcommand.outcomes_of.Goals as goal
 
@@ -12,8 +10,8 @@ returns-in-Some-clause-added c form add is = let same : false ≡ true = c.if-fl
 
 pub returns-in-Some-clause-some : goal.returns-in-Some-clause-some
 returns-in-Some-clause-some c seed runs form add is are =
-    ap (λ (f : Form). Some (Outcomes c.in-Some.numbers.0 c.in-Some.numbers.1 f)) (c.form_of-form.ensures.form form is)
-    ∙ ap (λ (n : ℕ × ℕ). Some (Outcomes n.0 n.1 form)) (in_some _ _ (c.in-Some.ensures.some seed runs are))
+    let same = in_some _ _ (c.in-Some.ensures.some seed runs are) in
+    (c.get_str-from.ensures, ap (λ (n : ℕ × ℕ). n.0) same, ap (λ (n : ℕ × ℕ). n.1) same, c.form_of-form.ensures.form form is)
 
 pub returns-in-None-clause-added : goal.returns-in-None-clause-added
 returns-in-None-clause-added c form add is = let same : false ≡ true = c.if-flag_given.ensures true add in absurd cc

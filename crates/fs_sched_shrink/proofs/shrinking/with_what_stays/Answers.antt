@@ -10,16 +10,16 @@ pub count_calls-requires : goal.count_calls-requires
 count_calls-requires c = subst (λ (s : Script). calls_in s.lists ≤ CALL_LIMIT) (sym (c.in_ok-cut.ensures c.args.script.now c.requires.read)) (at_most_all (kept_script c.args.kept.now c.args.script.now) (few_kept c.args.kept.now c.args.script.now c.requires.few))
 
 pub returns : goal.returns
-returns c =
+returns c from shrunk smallest =
     let cut = c.in_ok-cut.ensures c.args.script.now c.requires.read in (
       c.args.kept.now,
       record {
-        stays = c.requires.shrunk;
+        stays = shrunk;
         read = c.in_ok-text.ensures c.args.script.now c.requires.read;
         calls = c.count_calls.ensures ∙ ap (λ (s : Script). calls_in s.lists) cut;
         words = ap length c.as_slice.ensures ∙ ap (λ (s : Script). length s.words) cut;
         said = c.in_ok-said.ensures;
-        smallest = c.requires.smallest;
+        smallest = smallest;
         stopped = c.requires.stopped;
       },
     )
