@@ -11,7 +11,7 @@ use atomfs_answers::{
     report_shrink_from, report_unopened, report_words, status_of_run, status_of_verdict,
 };
 use atomfs_arguments::{Asserted, Format};
-use fs_sched::{Device, Schedule, Sink, Source};
+use fs_sched::{Device, Schedule, Silent, Sink, Source};
 use fs_sched_find::{find_from, read_what};
 use fs_sched_json::{find_object_from, seed_objects_from};
 use fs_sched_outcomes::{Form, outcomes_from};
@@ -69,7 +69,12 @@ pub(crate) fn run_at<T: Clock + Files, R: Source, W: Sink, E: Write>(
         Ok(tree) => tree,
         Err(status) => return status,
     };
-    let outcome = match run_from(alloc, tree.text, reader, writer, schedule, line) {
+    let ended = if line.is_on_terminal() {
+        run_from(alloc, tree.text, reader, writer, schedule, line)
+    } else {
+        run_from(alloc, tree.text, reader, writer, schedule, &mut Silent)
+    };
+    let outcome = match ended {
         Ok(end) => Ok(status_of_run(&end)),
         Err(fault) => Err(fault),
     };

@@ -33,8 +33,8 @@ use atomfs_arguments::{Asserted, Format, Invocation, Subcommand, parse};
 use atomfs_colours::Painting;
 use fs_explain::{Topic, explanation};
 use fs_sched::{
-    Device, RunFault, Schedule, Sink, Source, Witness, check_journal, run_script, run_seeds,
-    write_text,
+    Device, RunFault, Schedule, Silent, Sink, Source, Witness, check_journal, run_script,
+    run_seeds, write_text,
 };
 use fs_sched_find::{Clauses, FindFault, find_seed, read_what};
 use fs_sched_json::{check_object, find_object, seed_objects};
@@ -56,18 +56,23 @@ use std::sync::Wait;
 use std::thread::Threads;
 use std::time::Clock;
 
-/// Runs a script, and answers the status.
-fn run<R: Source, W: Sink, P: Witness>(
+/// Runs a script, and answers the status. Without a terminal nobody hears of its events, which costs nothing then.
+fn run<C: Clock, R: Source, W: Sink>(
     alloc: Global,
     reader: &mut R,
     writer: &mut W,
     schedule: Schedule,
-    progress: &mut P,
+    line: &mut Line<'_, C>,
 ) -> Result<u8, RunFault>
     requires reads { R.failures reader.old < 2 ^ 64 - 1 }
     requires writes { W.failures writer.old < 2 ^ 64 - 1 }
 {
-    match run_script(alloc, reader, writer, schedule, progress) {
+    let outcome = if line.is_on_terminal() {
+        run_script(alloc, reader, writer, schedule, line)
+    } else {
+        run_script(alloc, reader, writer, schedule, &mut Silent)
+    };
+    match outcome {
         Ok(end) => Ok(status_of_run(&end)),
         Err(fault) => Err(fault),
     }

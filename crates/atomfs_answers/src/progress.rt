@@ -215,6 +215,11 @@ impl<'a, C: Clock> Line<'a, C> {
         }
     }
 
+    /// Whether there is a terminal.
+    pub fn is_on_terminal(&self) -> bool {
+        self.screen.is_terminal
+    }
+
     /// Erases the line, if it is shown.
     pub fn erase(&self) {
         self.screen.erase();
