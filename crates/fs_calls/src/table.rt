@@ -4,7 +4,7 @@
 //! writes the arms of one match. So the errors that are looked for, and their order, are written from `calls!` (`rows` and
 //! `path_errors` here), and so is what `Op::next` makes of a call (`fs_ops/src/next.rt`, `fs_ops_effects/src/entries.rt`) and
 //! `Op::carry_out` does (`fs_ops_effects/src/carrying.rt`); from `phases!` how `Op::next` goes on along its walk, and how
-//! `Core::step` makes a move (`fs_core/src/machine.rt`). The definitions say the same to the prover (`specs/Rows.antt`,
+//! `Core::step` makes a move (`fs_core/src/engine.rt`). The definitions say the same to the prover (`specs/Rows.antt`,
 //! `specs/Forms.antt`), so a row that says another thing is refused where it is read. A word of a row means what its reader says.
 
 /// The calls on an entry, on two entries and on a node, in the order of the specification's table.

@@ -60,7 +60,7 @@ done_more lists ws i d old now new less a b = record {
 }
 
 -- with the rounds that follow
-pub done_ended : (schedule : Schedule) (script : Script) (old now new : Pieces) → HasDone (Words script.lists (stage_of old.play) (words_by schedule script.words (length script.lists))) old now → new.told ≡ now.told → EndsBy (goes_on schedule script.words) script.lists (stage_of now.play) (stage_of new.play) → HasDone (RunsFrom schedule script (stage_of old.play)) old new
+pub done_ended : (schedule : Schedule) (script : Script) (old now new : Pieces) → HasDone (Words script.lists (stage_of old.play) (words_by schedule script.words script.lists)) old now → new.told ≡ now.told → EndsBy (goes_on schedule script.words) script.lists (stage_of now.play) (stage_of new.play) → HasDone (RunsFrom schedule script (stage_of old.play)) old new
 done_ended schedule script old now new h same ends = record {
   told = h.told;
   came = (stage_of now.play, h.came, ends);
@@ -94,10 +94,10 @@ result_why (Err f) Q refused full = refused_why Q f refused (λ e. full (ap Err 
 pub why_here : (lists : List (List Call)) (ws : List Word) (i : ℕ) (d : Word) (old now : Pieces) (f : RunFault) → i < length ws → HasDone (Words lists (stage_of old.play) (take i ws)) old now → IsWhy (StopsAt lists (stage_of now.play) (get_or ws i d)) f → IsWhy (StopsInWords lists (stage_of old.play) ws) f
 why_here lists ws i d old now f less h why = why_weaker (StopsAt lists (stage_of now.play) (get_or ws i d)) (StopsInWords lists (stage_of old.play) ws) (λ g stops. stops_here lists ws i d h.told (stage_of old.play) (stage_of now.play) g less h.came stops) f why
 
-pub why_before : (schedule : Schedule) (script : Script) (old : Stage) (f : RunFault) → IsWhy (StopsInWords script.lists old (words_by schedule script.words (length script.lists))) f → IsWhy (StopsFrom schedule script old) f
-why_before schedule script old f why = why_weaker (StopsInWords script.lists old (words_by schedule script.words (length script.lists))) (StopsFrom schedule script old) (λ g stops. inl stops) f why
+pub why_before : (schedule : Schedule) (script : Script) (old : Stage) (f : RunFault) → IsWhy (StopsInWords script.lists old (words_by schedule script.words script.lists)) f → IsWhy (StopsFrom schedule script old) f
+why_before schedule script old f why = why_weaker (StopsInWords script.lists old (words_by schedule script.words script.lists)) (StopsFrom schedule script old) (λ g stops. inl stops) f why
 
-pub why_after : (schedule : Schedule) (script : Script) (old now : Pieces) (f : RunFault) → HasDone (Words script.lists (stage_of old.play) (words_by schedule script.words (length script.lists))) old now → goes_on schedule script.words ≡ true → IsRefusal f → (f ≡ faults.Full → StopsInRounds script.lists (stage_of now.play)) → IsWhy (StopsFrom schedule script (stage_of old.play)) f
+pub why_after : (schedule : Schedule) (script : Script) (old now : Pieces) (f : RunFault) → HasDone (Words script.lists (stage_of old.play) (words_by schedule script.words script.lists)) old now → goes_on schedule script.words ≡ true → IsRefusal f → (f ≡ faults.Full → StopsInRounds script.lists (stage_of now.play)) → IsWhy (StopsFrom schedule script (stage_of old.play)) f
 why_after schedule script old now f h goes refused full = refused_why (StopsFrom schedule script (stage_of old.play)) f refused (λ e. inr (stage_of now.play, h.told, h.came, goes, refl, full e))
 
 -- ---- counts

@@ -1,5 +1,5 @@
 -- Events of drawn threads, as words.
-use Rattle.std.proofs.Common.{◌≡◌, ℕ, List, [], ◌∷◌, ◌++◌, length, map, replicate, refl, Ok, ap, ap₂, ◌∙◌, subst, inl, inr}
+use Rattle.std.proofs.Common.{◌≡◌, ℕ, zero, suc, ◌-◌, ◌%◌, Bool, true, List, [], ◌∷◌, ◌++◌, length, map, replicate, refl, Ok, ap, ap₂, ◌∙◌, subst, inl, inr}
 use Rattle.std.specs.List.{range_with_len}
 use Rattle.fs_calls.specs.declared.call.Call.{Call}
 use Rattle.fs_timeline.specs.declared.entry.Entry.{Entry}
@@ -7,13 +7,16 @@ use Rattle.fs_laws.proofs.journal.ViewOfTimeline.{begin_start, step_start}
 use Rattle.fs_script.specs.declared.script.Script.{Script}
 use Rattle.fs_script.specs.declared.script.Word.{Word}
 use Rattle.fs_script.specs.declared.script.Word.TheVariants as words
-use Rattle.fs_sched.specs.Runs.{Stage, Event, Goes, Starts, Spent, Events, ToEnd, Over, More, Words, RunsFrom, Stops, StopsFrom, StopsInWords}
-use Rattle.fs_sched.specs.Schedules.{one_event, drawn_seats, prepared}
+use Rattle.fs_sched.specs.Runs.{Stage, EndsBy, Event, Goes, Starts, Spent, Events, ToEnd, Over, More, Words, RunsFrom, Stops, StopsFrom, StopsInWords}
+use Rattle.rand_pcg.specs.Lcg.{Lcg}
+use Rattle.rand_pcg.specs.Pcg.{pcg32}
+use Rattle.fs_sched.specs.Schedules.{generator_of, most_events, one_event, drawn_seats, schedule_by, goes_on, turns_by, turns_from, words_by}
 use Rattle.fs_verdict.specs.declared.fault.RunFault.{RunFault}
 use Rattle.fs_verdict.specs.declared.fault.RunFault.TheVariants.{Full, UnderWay}
-use Rattle.fs_sched.specs.declared.schedule.Schedule.TheVariants.{Seeded}
+use Rattle.fs_sched.specs.declared.policy.Policy.{Policy}
+use Rattle.fs_sched.specs.declared.policy.Policy.TheVariants.{Uniform, Priorities}
 use Rattle.fs_sched.specs.declared.schedule.TheConstants.{DRAW_LIMIT}
-use Rattle.fs_sched.proofs.Preparing.{OnlyEvents, only_drawn}
+use Rattle.fs_sched.proofs.Preparing.{OnlyEvents, only_drawn, only_behind}
 
 pub drawn_words : (lists : List (List Call)) (seats : List ℕ) (old new : Stage) → Events lists old seats new → Words lists old (map one_event seats) [] new
 drawn_words lists [] old new e = (e, refl)
@@ -33,16 +36,35 @@ no_checkpoint lists (words.Finish ∷ ws) old c only stops = only
 no_checkpoint lists (words.Drawn ∷ ws) old c only stops = only
 
 -- the words of a drawn run
-abbrev words_drawn : ℕ → Script → List Word
-words_drawn n script = prepared script.words ++ map one_event (drawn_seats n (length script.lists) DRAW_LIMIT)
+abbrev words_drawn : Policy → ℕ → Script → List Word
+words_drawn by n script = words_by (schedule_by by n) script.words script.lists
 
-only_words : (n : ℕ) (script : Script) → OnlyEvents (words_drawn n script)
-only_words n script = only_drawn script.words (drawn_seats n (length script.lists) DRAW_LIMIT)
+only_ends : (most : ℕ) (seats : List ℕ) → OnlyEvents (map (λ seat. words.Events seat most) seats)
+only_ends most [] = tt
+only_ends most (seat ∷ seats) = only_ends most seats
+
+only_turns_from : (threads most turns : ℕ) (g : Lcg) → OnlyEvents (turns_from threads most turns g)
+unfolding turns_from
+only_turns_from threads most zero g = only_ends most (range_with_len ((pcg32 g).0 % threads) (threads - (pcg32 g).0 % threads) ++ range_with_len 0 ((pcg32 g).0 % threads))
+only_turns_from threads most (suc turns) g = only_turns_from threads most turns (pcg32 (pcg32 g).1).1
+
+only_turns : (lists : List (List Call)) (depth n : ℕ) → OnlyEvents (turns_by lists depth n)
+only_turns [] depth n = tt
+only_turns (calls ∷ lists) depth n = only_turns_from (length (calls ∷ lists)) (most_events (calls ∷ lists)) (depth - 1) (generator_of n)
+
+only_words : (by : Policy) (n : ℕ) (script : Script) → OnlyEvents (words_drawn by n script)
+only_words Uniform n script = only_drawn script.words (drawn_seats n (length script.lists) DRAW_LIMIT)
+only_words (Priorities depth) n script = only_behind script.words (turns_by script.lists depth n) (only_turns script.lists depth n)
+
+-- rounds to the end follow, whatever the words are
+ends_always : (by : Policy) (n : ℕ) (words : List Word) → goes_on (schedule_by by n) words ≡ true
+ends_always Uniform n words = refl
+ends_always (Priorities depth) n words = refl
 
 -- a drawn run comes to no checkpoint
-pub never_from : (n : ℕ) (script : Script) (first : Stage) (c : ℕ) → StopsFrom (Seeded n) script first (UnderWay c) → ⊥
-never_from n script first c (inl stops) = no_checkpoint script.lists (words_drawn n script) first c (only_words n script) stops
-never_from n script first c (inr (middle, told, done, goes, full, rest)) = let z : ◌≡◌ {A = RunFault} (UnderWay c) Full = full in cc
+pub never_from : (by : Policy) (n : ℕ) (script : Script) (first : Stage) (c : ℕ) → StopsFrom (schedule_by by n) script first (UnderWay c) → ⊥
+never_from by n script first c (inl stops) = no_checkpoint script.lists (words_drawn by n script) first c (only_words by n script) stops
+never_from by n script first c (inr (middle, told, done, goes, full, rest)) = let z : ◌≡◌ {A = RunFault} (UnderWay c) Full = full in cc
 
 event_start : (lists : List (List Call)) (old new : Stage) (seat : ℕ) → Event lists old seat new → new.state.start ≡ old.state.start
 event_start lists old new seat (Goes c answer on step kept) = step_start old.state seat answer new.state step
@@ -68,7 +90,8 @@ words_start lists (words.Finish ∷ ws) told old new only all = absurd only
 words_start lists (words.Drawn ∷ ws) told old new only all = absurd only
 
 -- a drawn run is one piece
-pub drawn_from : (n : ℕ) (script : Script) (first : Stage) (told : List Entry) (last : Stage) → RunsFrom (Seeded n) script first told last → RunsFrom (Seeded n) script first [] last × (last.state.start ≡ first.state.start)
-drawn_from n script first told last runs =
-    let once : (told ≡ []) × (runs.0.state.start ≡ first.state.start) = words_start script.lists (words_drawn n script) told first runs.0 (only_words n script) runs.1 in
-    (subst (λ (es : List Entry). RunsFrom (Seeded n) script first es last) once.0 runs, end_start script.lists runs.0 last runs.2 ∙ once.1)
+pub drawn_from : (by : Policy) (n : ℕ) (script : Script) (first : Stage) (told : List Entry) (last : Stage) → RunsFrom (schedule_by by n) script first told last → RunsFrom (schedule_by by n) script first [] last × (last.state.start ≡ first.state.start)
+drawn_from by n script first told last runs =
+    let once : (told ≡ []) × (runs.0.state.start ≡ first.state.start) = words_start script.lists (words_drawn by n script) told first runs.0 (only_words by n script) runs.1 in
+    let ends : ToEnd script.lists runs.0 last = subst (λ (b : Bool). EndsBy b script.lists runs.0 last) (ends_always by n script.words) runs.2 in
+    (subst (λ (es : List Entry). RunsFrom (schedule_by by n) script first es last) once.0 runs, end_start script.lists runs.0 last ends ∙ once.1)

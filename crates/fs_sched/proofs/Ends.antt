@@ -54,12 +54,12 @@ one_number lists (w ∷ ws) a b c d s (inr (m, first, does, stops)) (inl stops_b
 one_number lists (w ∷ ws) a b c d s (inr (m, first, does, stops)) (inr (m_b, first_b, does_b, stops_b)) = one_number lists ws m m_b c d (does_same lists w first first_b a b m m_b s does does_b).1 stops stops_b
 
 -- such a stop is one at a word
-pub at_word : (schedule : Schedule) (script : Script) (c : ℕ) → IsUnderWay schedule script c → StopsInWords script.lists (start script.limits (length script.lists)) (words_by schedule script.words (length script.lists)) (UnderWay c)
+pub at_word : (schedule : Schedule) (script : Script) (c : ℕ) → IsUnderWay schedule script c → StopsInWords script.lists (start script.limits (length script.lists)) (words_by schedule script.words script.lists) (UnderWay c)
 at_word schedule script c (inl stops) = stops
 at_word schedule script c (inr (middle, told, done, goes, full, rest)) = absurd (let z : ◌≡◌ {A = RunFault} (UnderWay c) Full = full in cc)
 
 pub one_end : (schedule : Schedule) (script : Script) (c : ℕ) → IsUnderWay schedule script c → ((told : List Entry) (last : Stage) → Runs schedule script told last → ⊥) × ((d : ℕ) → IsUnderWay schedule script d → d ≡ c)
 one_end schedule script c under = (
-  λ told last runs. not_both script.lists (words_by schedule script.words (length script.lists)) told (start script.limits (length script.lists)) (start script.limits (length script.lists)) runs.0 c (same_start script.limits (length script.lists)) runs.1 (at_word schedule script c under),
-  λ d other. one_number script.lists (words_by schedule script.words (length script.lists)) (start script.limits (length script.lists)) (start script.limits (length script.lists)) c d (same_start script.limits (length script.lists)) (at_word schedule script c under) (at_word schedule script d other),
+  λ told last runs. not_both script.lists (words_by schedule script.words script.lists) told (start script.limits (length script.lists)) (start script.limits (length script.lists)) runs.0 c (same_start script.limits (length script.lists)) runs.1 (at_word schedule script c under),
+  λ d other. one_number script.lists (words_by schedule script.words script.lists) (start script.limits (length script.lists)) (start script.limits (length script.lists)) c d (same_start script.limits (length script.lists)) (at_word schedule script c under) (at_word schedule script d other),
 )

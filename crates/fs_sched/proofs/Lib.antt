@@ -26,6 +26,7 @@ pub mod Starts
 pub mod ShortRuns
 pub mod Noting
 pub mod Telling
+pub mod Turning
 pub mod FromRoot
 pub mod SameStarts
 pub mod Origins

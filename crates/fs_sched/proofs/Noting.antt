@@ -221,12 +221,12 @@ notes_word told lists old now new u v w x words i d less before notes kept =
 
 -- ---- a run
 
-pub run_on : {A : Type 0} (told : A → A → List Moment → Type 0) (schedule : Schedule) (script : Script) (old now last : Stage) (u v w : A) → goes_on schedule script.words ≡ true → NotesCut told script.lists old u (words_before schedule script.words (length script.lists)) now v → NotesToEnd told script.lists now v last w → NotesRun told schedule script old u last w
+pub run_on : {A : Type 0} (told : A → A → List Moment → Type 0) (schedule : Schedule) (script : Script) (old now last : Stage) (u v w : A) → goes_on schedule script.words ≡ true → NotesCut told script.lists old u (words_before schedule script.words script.lists) now v → NotesToEnd told script.lists now v last w → NotesRun told schedule script old u last w
 run_on told schedule script old now last u v w goes (ms, a, all, cut) (us, d, end) = (
   ms ++ us,
   hears_append told u v w ms us a d,
   (now, ms, us, refl, all, cut, subst (λ (b : Bool). AnswersEnd b script.lists now us last) (sym goes) end),
 )
 
-pub run_cut : {A : Type 0} (told : A → A → List Moment → Type 0) (schedule : Schedule) (script : Script) (old now : Stage) (u v : A) → goes_on schedule script.words ≡ false → NotesCut told script.lists old u (words_before schedule script.words (length script.lists)) now v → NotesRun told schedule script old u now v
+pub run_cut : {A : Type 0} (told : A → A → List Moment → Type 0) (schedule : Schedule) (script : Script) (old now : Stage) (u v : A) → goes_on schedule script.words ≡ false → NotesCut told script.lists old u (words_before schedule script.words script.lists) now v → NotesRun told schedule script old u now v
 run_cut told schedule script old now u v goes (ms, a, all, cut) = (ms, a, (now, ms, [], sym (append-nil ms), all, cut, subst (λ (b : Bool). AnswersEnd b script.lists now [] now) (sym goes) (refl, refl)))

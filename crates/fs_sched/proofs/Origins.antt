@@ -12,14 +12,16 @@ use Rattle.fs_script.specs.declared.script.Script.{Script}
 use Rattle.fs_sched_witness.specs.Moments.{entries_told}
 use Rattle.fs_sched_witness.specs.declared.moments.Moment.{Moment}
 use Rattle.fs_sched.specs.Moments.{TellsFrom}
-use Rattle.fs_sched.specs.Origins.{IsBefore, IsFirst, RunsOn, TellsOn, StopsAtSome, HasNoRun, LacksRun, tree_at}
+use Rattle.fs_sched.specs.Origins.{IsBefore, IsFirst, RunsOn, TellsOn, StopsAtSome, DrawnOn, HasNoRun, HasNoRunBy, LacksRun, from_root, tree_at}
 use Rattle.fs_sched.specs.Runs.{Stage, before_all, start, calls_in, RunsFrom, StopsFrom}
 use Rattle.fs_sched.specs.code.Done.{IsStop, IsStopOn}
 use Rattle.fs_sched.specs.code.Stages.{IsWhy}
 use Rattle.fs_sched.specs.declared.origin.Origin.{Origin}
 use Rattle.fs_sched.specs.declared.origin.Origin.TheVariants.{Root, Tree}
 use Rattle.fs_sched.specs.declared.schedule.Schedule.{Schedule}
-use Rattle.fs_sched.specs.declared.schedule.Schedule.TheVariants.{Seeded}
+use Rattle.fs_sched.specs.declared.policy.Campaign.{Campaign}
+use Rattle.fs_sched.specs.declared.policy.Policy.{Policy}
+use Rattle.fs_sched.specs.Schedules.{schedule_by}
 use Rattle.fs_sched.proofs.Done.{why_weaker}
 use Rattle.fs_sched.proofs.Drawn.{drawn_from, never_from}
 use Rattle.fs_sched.proofs.Filling.{is_stop}
@@ -96,43 +98,46 @@ stop_on Root schedule script first fault is few why = is_stop schedule script fa
 stop_on (Tree tree) schedule script first fault is few why = why_weaker (StopsFrom schedule script first) (StopsAtSome schedule script tree) (λ f stops. (first, is, stops)) fault why
 
 -- a drawn run is one piece, from its tree
-pub drawn_on : (from : Origin) (n : ℕ) (script : Script) (told : List Entry) (last : Stage) → RunsOn from (Seeded n) script told last → RunsOn from (Seeded n) script [] last × (last.state.start ≡ tree_at from script.limits)
-drawn_on from n script told last runs =
-    let (first, is, one) = run_first from (Seeded n) script told last runs in
-    let once : RunsFrom (Seeded n) script first [] last × (last.state.start ≡ first.state.start) = drawn_from n script first told last one in
-    (runs_on from (Seeded n) script first [] last is once.0, once.1 ∙ first_tree from script first is)
+pub drawn_on : (drawn : Campaign) (n : ℕ) (script : Script) (told : List Entry) (last : Stage) → DrawnOn drawn n script told last → DrawnOn drawn n script [] last × (last.state.start ≡ tree_at drawn.from script.limits)
+drawn_on drawn n script told last runs =
+    let (first, is, one) = run_first drawn.from (schedule_by drawn.by n) script told last runs in
+    let once : RunsFrom (schedule_by drawn.by n) script first [] last × (last.state.start ≡ first.state.start) = drawn_from drawn.by n script first told last one in
+    (runs_on drawn.from (schedule_by drawn.by n) script first [] last is once.0, once.1 ∙ first_tree drawn.from script first is)
 
-root_none : (n : ℕ) (script : Script) (fault : RunFault) → IsStop (Seeded n) script fault → HasNoRun Root script n fault
-root_none n script (faults.Input f) stop = absurd stop
-root_none n script faults.Read stop = absurd stop
-root_none n script faults.Write stop = absurd stop
-root_none n script faults.OutOfMemory stop = tt
-root_none n script faults.Full stop = absurd stop
-root_none n script (faults.UnderWay c) stop = absurd (never_from n script (start script.limits (length script.lists)) c stop)
+root_none : (by : Policy) (n : ℕ) (script : Script) (fault : RunFault) → IsStop (schedule_by by n) script fault → HasNoRunBy Root (schedule_by by n) script fault
+root_none by n script (faults.Input f) stop = absurd stop
+root_none by n script faults.Read stop = absurd stop
+root_none by n script faults.Write stop = absurd stop
+root_none by n script faults.OutOfMemory stop = tt
+root_none by n script faults.Full stop = absurd stop
+root_none by n script (faults.UnderWay c) stop = absurd (never_from by n script (start script.limits (length script.lists)) c stop)
 
-tree_none : (tree : Start) (n : ℕ) (script : Script) (fault : RunFault) → IsWhy (StopsAtSome (Seeded n) script tree) fault → HasNoRun (Tree tree) script n fault
-tree_none tree n script (faults.Input f) why = absurd why
-tree_none tree n script faults.Read why = absurd why
-tree_none tree n script faults.Write why = absurd why
-tree_none tree n script faults.OutOfMemory why = tt
-tree_none tree n script faults.Full why = why
-tree_none tree n script (faults.UnderWay c) (first, is, stops) = absurd (never_from n script first c stops)
+tree_none : (tree : Start) (by : Policy) (n : ℕ) (script : Script) (fault : RunFault) → IsWhy (StopsAtSome (schedule_by by n) script tree) fault → HasNoRunBy (Tree tree) (schedule_by by n) script fault
+tree_none tree by n script (faults.Input f) why = absurd why
+tree_none tree by n script faults.Read why = absurd why
+tree_none tree by n script faults.Write why = absurd why
+tree_none tree by n script faults.OutOfMemory why = tt
+tree_none tree by n script faults.Full why = why
+tree_none tree by n script (faults.UnderWay c) (first, is, stops) = absurd (never_from by n script first c stops)
+
+none_by : (from : Origin) (by : Policy) (n : ℕ) (script : Script) (fault : RunFault) → IsStopOn from (schedule_by by n) script fault → HasNoRunBy from (schedule_by by n) script fault
+none_by Root by n script fault stop = root_none by n script fault stop
+none_by (Tree tree) by n script fault stop = tree_none tree by n script fault stop
 
 -- why there is no drawn run, and so one of many is missing
-pub no_run : (from : Origin) (n : ℕ) (script : Script) (fault : RunFault) → IsStopOn from (Seeded n) script fault → HasNoRun from script n fault
-no_run Root n script fault stop = root_none n script fault stop
-no_run (Tree tree) n script fault stop = tree_none tree n script fault stop
+pub no_run : (drawn : Campaign) (n : ℕ) (script : Script) (fault : RunFault) → IsStopOn drawn.from (schedule_by drawn.by n) script fault → HasNoRun drawn script n fault
+no_run drawn n script fault stop = none_by drawn.from drawn.by n script fault stop
 
-pub lacks_run : (from : Origin) (script : Script) (seed runs n : ℕ) (fault : RunFault) → seed ≤ n → n < seed + runs → HasNoRun from script n fault → LacksRun from script seed runs fault
-lacks_run from script seed runs n (faults.Input f) least below none = (n, least, below, none)
-lacks_run from script seed runs n faults.Read least below none = (n, least, below, none)
-lacks_run from script seed runs n faults.Write least below none = (n, least, below, none)
-lacks_run from script seed runs n faults.OutOfMemory least below none = tt
-lacks_run from script seed runs n faults.Full least below none = (n, least, below, none)
-lacks_run from script seed runs n (faults.UnderWay c) least below none = (n, least, below, none)
+pub lacks_run : (drawn : Campaign) (script : Script) (seed runs n : ℕ) (fault : RunFault) → seed ≤ n → n < seed + runs → HasNoRun drawn script n fault → LacksRun drawn script seed runs fault
+lacks_run drawn script seed runs n (faults.Input f) least below none = (n, least, below, none)
+lacks_run drawn script seed runs n faults.Read least below none = (n, least, below, none)
+lacks_run drawn script seed runs n faults.Write least below none = (n, least, below, none)
+lacks_run drawn script seed runs n faults.OutOfMemory least below none = tt
+lacks_run drawn script seed runs n faults.Full least below none = (n, least, below, none)
+lacks_run drawn script seed runs n (faults.UnderWay c) least below none = (n, least, below, none)
 
 -- from the root alone only memory can be wanting
-pub only_memory : (script : Script) (seed runs : ℕ) (fault : RunFault) → LacksRun Root script seed runs fault → fault ≡ faults.OutOfMemory
+pub only_memory : (script : Script) (seed runs : ℕ) (fault : RunFault) → LacksRun from_root script seed runs fault → fault ≡ faults.OutOfMemory
 only_memory script seed runs (faults.Input f) (n, least, below, none) = absurd none
 only_memory script seed runs faults.Read (n, least, below, none) = absurd none
 only_memory script seed runs faults.Write (n, least, below, none) = absurd none

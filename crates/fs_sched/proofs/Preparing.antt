@@ -20,7 +20,7 @@ use Rattle.fs_sched.specs.code.Stages.{stage_of, IsWhy}
 use Rattle.fs_sched.specs.declared.pieces.Pieces.{Pieces}
 use Rattle.fs_verdict.specs.declared.fault.RunFault.{RunFault}
 use Rattle.fs_sched.proofs.Done.{none_told, why_weaker}
-use Rattle.fs_sched.proofs.Noting.{hears_append, moments_append, notes_none, notes_append}
+use Rattle.fs_sched.proofs.Noting.{hears_append, moments_append, notes_none, cut_whole, notes_append}
 use Rattle.fs_sched.proofs.Telling.{words_append, singles_stay}
 
 -- ---- words one after the other
@@ -139,6 +139,13 @@ pub cut_prepared : {A : Type 0} (told : A → A → List Moment → Type 0) (lis
 cut_prepared told lists old now new u v w ws seats before notes =
     subst (λ (l : List Word). NotesCut told lists old u l new w) (sym (given_drawn (prepared ws) seats)) (cut_behind told lists old now new u v w (given_words (prepared ws)) (map one_event seats) before notes)
 
+-- the same of turns
+pub cut_turns : {A : Type 0} (told : A → A → List Moment → Type 0) (lists : List (List Call)) (old now new : Stage) (u v w : A) (ws vs : List Word) → Notes told lists old u (given_words (prepared ws)) now v → Notes told lists now v (given_words vs) new w
+    → NotesCut told lists old u (given_words (prepared ws ++ vs)) new w
+cut_turns told lists old now new u v w ws vs before notes =
+    subst (λ (l : List Word). NotesCut told lists old u l new w) (sym (given_append (prepared ws) vs))
+    (cut_whole told lists old new u w (given_words (prepared ws) ++ given_words vs) (notes_append told lists old now new u v w (given_words (prepared ws)) (given_words vs) before notes))
+
 -- ---- words that give events alone
 
 abbrev pub OnlyEvents : List Word → Type 0
@@ -174,5 +181,8 @@ only_prepared ws = go (ends_drawn ws)
     go false = tt
 
 -- as those of a drawn run are
+pub only_behind : (ws vs : List Word) → OnlyEvents vs → OnlyEvents (prepared ws ++ vs)
+only_behind ws vs only = only_append (prepared ws) vs (only_prepared ws) only
+
 pub only_drawn : (ws : List Word) (seats : List ℕ) → OnlyEvents (prepared ws ++ map one_event seats)
 only_drawn ws seats = only_append (prepared ws) (map one_event seats) (only_prepared ws) (only_one seats)

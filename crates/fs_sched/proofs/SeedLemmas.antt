@@ -7,15 +7,14 @@ use Rattle.std.proofs.lemmas.Grind.{flat_map-append}
 use Rattle.fs_script.specs.Script.{script_of}
 use Rattle.fs_script.specs.declared.script.Script.{Script}
 use Rattle.fs_sched.specs.Devices.{IsFaultOf, IsSameText}
-use Rattle.fs_sched.specs.Origins.{LacksRun}
+use Rattle.fs_sched.specs.Origins.{LacksRun, from_root}
 use Rattle.fs_sched.specs.Seeds.{lawful_line, IsLawfulOn, AreRunsOf}
-use Rattle.fs_sched.specs.declared.origin.Origin.{Origin}
-use Rattle.fs_sched.specs.declared.origin.Origin.TheVariants.{Root}
+use Rattle.fs_sched.specs.declared.policy.Campaign.{Campaign}
 use Rattle.fs_verdict.specs.declared.fault.RunFault.{RunFault}
 use Rattle.fs_sched.proofs.Origins.{only_memory}
 use Rattle.fs_sched.proofs.RunLemmas.{script_same}
 
-range_last : (a n : ℕ) → range_with_len a (suc n) ≡ range_with_len a n ++ (a + n) ∷ []
+pub range_last : (a n : ℕ) → range_with_len a (suc n) ≡ range_with_len a n ++ (a + n) ∷ []
 range_last a zero = let same : a ≡ a + 0 = omega arith in ap (λ k. k ∷ []) same
 range_last a (suc n) = let same : (a + 1) + n ≡ a + suc n = omega arith in ap (λ l. a ∷ l) (range_last (a + 1) n ∙ ap (λ k. range_with_len (a + 1) n ++ k ∷ []) same)
 
@@ -27,11 +26,11 @@ lines_more seed run lines more e m =
     m ∙ ap (λ l. l ++ lawful_line (seed + run)) e ∙ sym (ap (flat_map lawful_line) (ap (range_with_len seed) on ∙ range_last seed run) ∙ flat_map-append lawful_line (range_with_len seed run) ((seed + run) ∷ []) ∙ ap (λ l. flat_map lawful_line (range_with_len seed run) ++ l) one)
 
 -- the runs with the next one
-pub each_more : (from : Origin) (script : Script) (seed run : ℕ) → ((n : ℕ) → seed ≤ n → n < seed + run → IsLawfulOn from script n) → IsLawfulOn from script (seed + run) → (n : ℕ) → seed ≤ n → n < seed + (run + 1) → IsLawfulOn from script n
-each_more from script seed run each next n least below = ⊎_elim (λ e. subst (IsLawfulOn from script) (sym e) next) (λ l. each n least l) (eq-or-lt_of_le (omega (arith, below)))
+pub each_more : (drawn : Campaign) (script : Script) (seed run : ℕ) → ((n : ℕ) → seed ≤ n → n < seed + run → IsLawfulOn drawn script n) → IsLawfulOn drawn script (seed + run) → (n : ℕ) → seed ≤ n → n < seed + (run + 1) → IsLawfulOn drawn script n
+each_more drawn script seed run each next n least below = ⊎_elim (λ e. subst (IsLawfulOn drawn script) (sym e) next) (λ l. each n least l) (eq-or-lt_of_le (omega (arith, below)))
 
 -- from the root alone only memory can be wanting
-pub root_fault : (input : List ℕ) (script : Script) (seed runs : ℕ) (fault : RunFault) → LacksRun Root script seed runs fault → IsFaultOf (script_of input) fault
+pub root_fault : (input : List ℕ) (script : Script) (seed runs : ℕ) (fault : RunFault) → LacksRun from_root script seed runs fault → IsFaultOf (script_of input) fault
 root_fault input script seed runs fault lacks = subst (IsFaultOf (script_of input)) (sym (only_memory script seed runs fault lacks)) tt
 
 pub known_runs : (r : Option (List ℕ)) (text items out : List ℕ) (seed runs : ℕ) → text ≡ items → IfSome r (IsSameText items) → AreRunsOf seed runs text out → IfSome r (λ input. AreRunsOf seed runs input out)

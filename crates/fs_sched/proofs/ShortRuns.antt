@@ -145,7 +145,7 @@ short_from schedule input script limit first graph told last is tree kept run (m
     let list : Type 0 = IsTrue (has_list script.limits) in
     let named : (k : Key) → keys k → AllByRecursion names k = λ k h. h.short in
     let h = ends_named names keys list named script.limits (goes_on schedule script.words) script.lists middle last all ends
-    (words_named names keys list named script.limits script.lists (words_by schedule script.words (length script.lists)) told (before_all (fresh limit first graph) (length script.lists)) middle all done (fresh_named names keys list named script.limits limit first graph (length script.lists) tree kept)) in
+    (words_named names keys list named script.limits script.lists (words_by schedule script.words script.lists) told (before_all (fresh limit first graph) (length script.lists)) middle all done (fresh_named names keys list named script.limits limit first graph (length script.lists) tree kept)) in
     record {
       entries = lawful_kept names keys list named last.state.start last.state.timeline (linearizes last.state run).lawful h.tree h.begun;
       tree = h.tree;

@@ -134,8 +134,8 @@ ends_told false lists old last ms (none, e) = (e, ap entries_told none)
 -- moments that are told as those of a run are a run, with the pieces that end at them
 pub run_told : (schedule : Schedule) (script : Script) (old last : Stage) (ms : List Moment) → TellsFrom schedule script old ms last → RunsFrom schedule script old (entries_told ms) last
 run_told schedule script old last ms (middle, first, more, e, all, cut, end) =
-    let words : List Word = words_by schedule script.words (length script.lists) in
-    let given : Words script.lists old (given_words words) (entries_told first) middle = cut_told script.lists old middle (words_before schedule script.words (length script.lists)) first all cut in
+    let words : List Word = words_by schedule script.words script.lists in
+    let given : Words script.lists old (given_words words) (entries_told first) middle = cut_told script.lists old middle (words_before schedule script.words script.lists) first all cut in
     let (ends, none) = ends_told (goes_on schedule script.words) script.lists middle last more end in
     let told : entries_told ms ≡ entries_told first = ap entries_told e ∙ flat_map-append entries_of first more ∙ ap (λ (l : List Entry). entries_told first ++ l) none ∙ append-nil (entries_told first) in
     (middle, subst (λ (l : List Entry). Words script.lists old words l middle) (sym told) (regrouped script.lists old middle words (entries_told first) given), ends)

@@ -31,7 +31,7 @@ use Rattle.fs_sched.specs.RunTexts.{number_of}
 use Rattle.fs_sched.specs.declared.run_texts.EntryKind.TheVariants as kind
 use Rattle.fs_sched.specs.declared.running.RunEnd.{RunEnd}
 use Rattle.fs_sched.specs.declared.schedule.Schedule.{Schedule}
-use Rattle.fs_sched.specs.declared.schedule.Schedule.TheVariants.{Given, RoundRobin, Seeded}
+use Rattle.fs_sched.specs.declared.schedule.Schedule.TheVariants.{Given, RoundRobin, Seeded, Priorities}
 use Rattle.fs_sched.specs.Runs.{Stage, before_all, start, next_call, Event, Goes, Starts, Spent, Events, IsOver, ToEnd, Over, More, EndsBy, Does, Words, Runs, RunsFrom, calls_in, end_of, IsRunOf, IsWhole, HasFinish}
 use Rattle.fs_sched.specs.Devices.{IsSameText}
 use Rattle.fs_sched.specs.Schedules.{words_by, is_finish, goes_on}
@@ -260,8 +260,8 @@ complete lists told s k over =
     let p : number_of kind.Commit (told ++ s.state.timeline) ≡ number_of kind.Begin (told ++ s.state.timeline) = again.committed in
     record { begun = omega (arith, z, b); committed = omega (arith, z, b, p); returned = omega (arith, z, b, r) }
 
-run_keeps : (schedule : Schedule) (script : Script) (old : Stage) (told : List Entry) (middle : Stage) → ListFacts script.lists [] old → Words script.lists old (words_by schedule script.words (length script.lists)) told middle → ListFacts script.lists told middle
-run_keeps schedule script old told middle k done = words_keep script.lists (words_by schedule script.words (length script.lists)) [] told old middle done k
+run_keeps : (schedule : Schedule) (script : Script) (old : Stage) (told : List Entry) (middle : Stage) → ListFacts script.lists [] old → Words script.lists old (words_by schedule script.words script.lists) told middle → ListFacts script.lists told middle
+run_keeps schedule script old told middle k done = words_keep script.lists (words_by schedule script.words script.lists) [] told old middle done k
 
 ends_keep : (b : Bool) (lists : List (List Call)) (told : List Entry) (old last : Stage) → EndsBy b lists old last → ListFacts lists told old → ListFacts lists told last
 ends_keep true lists told old last ends k = (end_keeps lists told old last ends k).0
@@ -320,11 +320,13 @@ pub always_goes_on : (schedule : Schedule) (words : List Word) → schedule ≢ 
 always_goes_on Given words other = absurd (other refl)
 always_goes_on RoundRobin words other = refl
 always_goes_on (Seeded n) words other = refl
+always_goes_on (Priorities depth n) words other = refl
 
 pub finish_goes_on : (schedule : Schedule) (words : List Word) → list_any is_finish words ≡ true → goes_on schedule words ≡ true
 finish_goes_on Given words has = has
 finish_goes_on RoundRobin words has = refl
 finish_goes_on (Seeded n) words has = refl
+finish_goes_on (Priorities depth n) words has = refl
 
 pub whole_always : (schedule : Schedule) (text : List ℕ) (end : RunEnd) (out : List ℕ) → IsRunOf schedule text end out → end.begun < 2 ^ 64 → schedule ≢ Given → IsWhole end
 whole_always schedule text end out (script, is, (told, last, runs, (ended, spelled))) fits other = whole_end schedule script (start script.limits (length script.lists)) told last end (kept_start script.limits script.lists) runs ended (always_goes_on schedule script.words other) fits

@@ -1,6 +1,7 @@
 -- The words that a schedule gives before rounds to the end, one for each event.
-use Rattle.std.specs.Prelude.{ℕ, List, [], ◌∷◌, replicate}
+use Rattle.std.specs.Prelude.{List, [], ◌∷◌, replicate}
 use Rattle.std.specs.List.{flat_map}
+use Rattle.fs_calls.specs.declared.call.Call.{Call}
 use Rattle.fs_script.specs.declared.script.Word.{Word}
 use Rattle.fs_script.specs.declared.script.Word.TheVariants.{Events, Checkpoint, Finish, Drawn}
 use Rattle.fs_sched.specs.Schedules.{one_event, words_by}
@@ -18,5 +19,5 @@ abbrev pub given_words : List Word → List Word
 given_words words = flat_map single_words words
 
 -- those before rounds to the end; an event of a thread that has nothing to do is spent
-abbrev pub words_before : Schedule → List Word → ℕ → List Word
-words_before schedule words threads = given_words (words_by schedule words threads)
+abbrev pub words_before : Schedule → List Word → List (List Call) → List Word
+words_before schedule words lists = given_words (words_by schedule words lists)

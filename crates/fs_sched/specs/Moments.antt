@@ -58,7 +58,7 @@ AnswersEnd false lists old ms last = (ms ≡ []) × (last ≡ old)
 abbrev pub TellsFrom : Schedule → Script → Stage → List Moment → Stage → Type 0
 TellsFrom schedule script old ms last =
     (middle : Stage) × (first more : List Moment) × (ms ≡ first ++ more) × AreMoments script.lists old first middle
-    × AreOfWords script.lists (words_before schedule script.words (length script.lists)) first middle × AnswersEnd (goes_on schedule script.words) script.lists middle more last
+    × AreOfWords script.lists (words_before schedule script.words script.lists) first middle × AnswersEnd (goes_on schedule script.words) script.lists middle more last
 
 -- the same from the first stage to the last
 abbrev pub TellsRun : Schedule → Script → List Moment → Stage → Type 0

@@ -13,8 +13,10 @@ use Rattle.fs_sched.specs.Moments.{TellsFrom, TellsRun}
 use Rattle.fs_sched.specs.Runs.{Stage, before_all, start, Runs, RunsFrom, StopsFrom}
 use Rattle.fs_sched.specs.declared.origin.Origin.{Origin}
 use Rattle.fs_sched.specs.declared.origin.Origin.TheVariants.{Root, Tree}
+use Rattle.fs_sched.specs.declared.policy.Campaign.{Campaign}
+use Rattle.fs_sched.specs.declared.policy.Policy.TheVariants.{Uniform}
 use Rattle.fs_sched.specs.declared.schedule.Schedule.{Schedule}
-use Rattle.fs_sched.specs.declared.schedule.Schedule.TheVariants.{Seeded}
+use Rattle.fs_sched.specs.Schedules.{schedule_by}
 use Rattle.fs_verdict.specs.declared.fault.RunFault.{RunFault}
 use Rattle.fs_verdict.specs.declared.fault.RunFault.TheVariants as fault
 
@@ -61,14 +63,32 @@ abbrev pub TellsOn : Origin → Schedule → Script → List Moment → Stage �
 TellsOn Root schedule script ms last = TellsRun schedule script ms last
 TellsOn (Tree tree) schedule script ms last = (first : Stage) × IsBefore tree (length script.lists) first × TellsFrom schedule script first ms last
 
--- why there is no run that is drawn from a number: out of memory; or the tree's nodes leave too few numbers, and a call begins when all are in use
-abbrev pub HasNoRun : Origin → Script → ℕ → RunFault → Type 0
-HasNoRun from script n fault.OutOfMemory = Unit {0}
-HasNoRun Root script n f = ⊥
-HasNoRun (Tree tree) script n fault.Full = StopsAtSome (Seeded n) script tree fault.Full
-HasNoRun (Tree tree) script n f = ⊥
+-- ---- runs that are drawn
 
--- and why one of so many runs is missing
-abbrev pub LacksRun : Origin → Script → ℕ → ℕ → RunFault → Type 0
-LacksRun from script seed runs fault.OutOfMemory = Unit {0}
-LacksRun from script seed runs f = (n : ℕ) × (seed ≤ n) × (n < seed + runs) × HasNoRun from script n f
+-- from the root alone, each event of any thread
+abbrev pub from_root : Campaign
+from_root = record { from = Root; by = Uniform }
+
+-- the run that is drawn from a number
+abbrev pub DrawnOn : Campaign → ℕ → Script → List Entry → Stage → Type 0
+DrawnOn drawn n script told last = RunsOn drawn.from (schedule_by drawn.by n) script told last
+
+-- the tree's nodes leave too few numbers, and a call begins when all are in use; at the root alone there are always enough
+abbrev pub FillsBy : Origin → Schedule → Script → Type 0
+FillsBy Root schedule script = ⊥
+FillsBy (Tree tree) schedule script = StopsAtSome schedule script tree fault.Full
+
+-- why there is no run in one piece: out of memory, or too few numbers
+abbrev pub HasNoRunBy : Origin → Schedule → Script → RunFault → Type 0
+HasNoRunBy from schedule script fault.OutOfMemory = Unit {0}
+HasNoRunBy from schedule script fault.Full = FillsBy from schedule script
+HasNoRunBy from schedule script f = ⊥
+
+-- why there is none that is drawn from a number
+abbrev pub HasNoRun : Campaign → Script → ℕ → RunFault → Type 0
+HasNoRun drawn script n f = HasNoRunBy drawn.from (schedule_by drawn.by n) script f
+
+-- and why one of so many is missing
+abbrev pub LacksRun : Campaign → Script → ℕ → ℕ → RunFault → Type 0
+LacksRun drawn script seed runs fault.OutOfMemory = Unit {0}
+LacksRun drawn script seed runs f = (n : ℕ) × (seed ≤ n) × (n < seed + runs) × HasNoRun drawn script n f

@@ -92,7 +92,7 @@ Words lists old (w ∷ words) told new = (middle : Stage) × (first : List Entry
 
 -- a run of a script by a schedule, from a stage on
 abbrev pub RunsFrom : Schedule → Script → Stage → List Entry → Stage → Type 0
-RunsFrom schedule script old told last = (middle : Stage) × Words script.lists old (words_by schedule script.words (length script.lists)) told middle × EndsBy (goes_on schedule script.words) script.lists middle last
+RunsFrom schedule script old told last = (middle : Stage) × Words script.lists old (words_by schedule script.words script.lists) told middle × EndsBy (goes_on schedule script.words) script.lists middle last
 
 -- a run of a script by a schedule, from its first stage to its last, which is of its last piece; and the entries of the pieces before
 abbrev pub Runs : Schedule → Script → List Entry → Stage → Type 0
@@ -126,8 +126,8 @@ StopsInWords lists old (w ∷ words) f = StopsAt lists old w f ⊎ ((middle : St
 -- a run of a script by a schedule, from a stage on, stops by a fault
 abbrev pub StopsFrom : Schedule → Script → Stage → RunFault → Type 0
 StopsFrom schedule script old f =
-    StopsInWords script.lists old (words_by schedule script.words (length script.lists)) f
-    ⊎ ((middle : Stage) × (told : List Entry) × Words script.lists old (words_by schedule script.words (length script.lists)) told middle × (goes_on schedule script.words ≡ true) × (f ≡ fault.Full) × StopsInRounds script.lists middle)
+    StopsInWords script.lists old (words_by schedule script.words script.lists) f
+    ⊎ ((middle : Stage) × (told : List Entry) × Words script.lists old (words_by schedule script.words script.lists) told middle × (goes_on schedule script.words ≡ true) × (f ≡ fault.Full) × StopsInRounds script.lists middle)
 
 -- the same from the first stage on
 abbrev pub StopsBy : Schedule → Script → RunFault → Type 0

@@ -5,7 +5,8 @@
 //! writer failed during this call. Checks and faults are those of `fs_verdict`.
 //!
 //! All of them play a script in one place, `Play`, which reports each moment to a `Witness` when it comes. `watch` plays a script for its
-//! witness alone, and `run_on` plays it on a core that begins at a tree. `watch_at` and `seeds_of` do so from an `Origin`, the root or a tree.
+//! witness alone, and `run_on` plays it on a core that begins at a tree. `watch_at` does so from an `Origin`, the root or a tree. A `Campaign` is
+//! an origin and a `Policy`, by which the schedules of `seeds_of` are drawn.
 //! `Silent` is a witness that gets no reports, and costs nothing.
 //!
 //! Enter at these two, with a `Device` around a reader and a writer, or with a text in memory at `run_bytes`. The definitions are in
@@ -18,11 +19,13 @@ pub mod laws;
 mod origin;
 mod pieces;
 mod play;
+mod policy;
 mod run_texts;
 mod running;
 mod schedule;
 mod seats;
 mod seeding;
+mod turns;
 mod watching;
 
 pub use fs_sched_witness::{Answer, Moment, Silent, Told, Witness};
@@ -33,6 +36,7 @@ pub use fs_verdict::{
 pub use input::script_in;
 pub use origin::Origin;
 pub use play::{checkpoint_fault, refusal_fault};
+pub use policy::{Campaign, DEPTH_LIMIT, Policy};
 pub use run_texts::{Counts, EntryKind, counts_of, number_of, push_counts};
 pub use running::{RunEnd, run_bytes, run_end, run_on, run_script};
 pub use schedule::{DRAW_LIMIT, Draws, Schedule};

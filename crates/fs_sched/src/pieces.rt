@@ -5,7 +5,7 @@ ghost use Rattle.std.specs.List.{filter};
 ghost use Rattle.fs_calls.specs.declared.call.Call.{Call};
 ghost use Rattle.fs_core.specs.CoreValues.{state_of};
 ghost use Rattle.fs_sched.specs.Runs.{before_all, Does, Words, RunsFrom, StopsAt, StopsInWords, StopsFrom};
-ghost use Rattle.fs_sched.specs.Schedules.{words_by, is_events, prepared};
+ghost use Rattle.fs_sched.specs.Schedules.{words_by, is_events, prepared, turns_by};
 ghost use Rattle.fs_sched.specs.Gives.{single_words, given_words, words_before};
 ghost use Rattle.fs_sched.specs.code.Notes.{Notes, NotesCut, NotesRun};
 ghost use Rattle.fs_sched.specs.code.Counts.{AreCapped};
@@ -15,6 +15,7 @@ ghost use Rattle.fs_sched.specs.code.Done.{HasDone};
 use crate::play::Play;
 use crate::run_texts::{Counts, counts_of};
 use crate::schedule::{Schedule, ends_drawn, is_events};
+use crate::turns::turns_by;
 use fs_core::Core;
 use fs_sched_witness::{Moment, Witness};
 use fs_script::{CallLists, Script, Word};
@@ -154,6 +155,27 @@ impl Pieces {
         Ok(())
     }
 
+    /// The turns by priorities of a depth that are drawn from a number.
+    fn turns<W: Witness>(
+        &mut self,
+        alloc: Global,
+        lists: &CallLists,
+        depth: u64,
+        seed: u64,
+        witness: &mut W,
+    ) -> Result<(), RunFault>
+        requires { IsMarked lists.now self.old.play }
+        ensures notes { OnOk result (Notes W.Told lists.now (stage_of self.old.play) witness.old (given_words (turns_by lists.now depth seed)) (stage_of self.new.play) witness.new) }
+        ensures done { OnOk result (HasDone (Words lists.now (stage_of self.old.play) (turns_by lists.now depth seed)) self.old self.new) }
+        ensures seats { OnOk result (IsMarked lists.now self.new.play) }
+        ensures why { IfErr result (IsWhy (StopsInWords lists.now (stage_of self.old.play) (turns_by lists.now depth seed))) }
+    {
+        match turns_by(alloc, lists, depth, seed) {
+            Ok(words) => self.words(alloc, lists, &words, witness),
+            Err(_) => Err(RunFault::OutOfMemory),
+        }
+    }
+
     /// The events before rounds to the end.
     fn before<W: Witness>(
         &mut self,
@@ -163,10 +185,10 @@ impl Pieces {
         witness: &mut W,
     ) -> Result<(), RunFault>
         requires { IsMarked script.now.lists self.old.play }
-        ensures notes { OnOk result (NotesCut W.Told script.now.lists (stage_of self.old.play) witness.old (words_before schedule script.now.words (length script.now.lists)) (stage_of self.new.play) witness.new) }
-        ensures done { OnOk result (HasDone (Words script.now.lists (stage_of self.old.play) (words_by schedule script.now.words (length script.now.lists))) self.old self.new) }
+        ensures notes { OnOk result (NotesCut W.Told script.now.lists (stage_of self.old.play) witness.old (words_before schedule script.now.words script.now.lists) (stage_of self.new.play) witness.new) }
+        ensures done { OnOk result (HasDone (Words script.now.lists (stage_of self.old.play) (words_by schedule script.now.words script.now.lists)) self.old self.new) }
         ensures seats { OnOk result (IsMarked script.now.lists self.new.play) }
-        ensures why { IfErr result (IsWhy (StopsInWords script.now.lists (stage_of self.old.play) (words_by schedule script.now.words (length script.now.lists)))) }
+        ensures why { IfErr result (IsWhy (StopsInWords script.now.lists (stage_of self.old.play) (words_by schedule script.now.words script.now.lists))) }
     {
         match schedule {
             Schedule::Given => {
@@ -178,6 +200,10 @@ impl Pieces {
             Schedule::Seeded(seed) => {
                 self.prepare(alloc, &script.lists, script.words.as_slice(), witness)?;
                 self.play.drawn(alloc, &script.lists, seed, witness)
+            }
+            Schedule::Priorities(depth, seed) => {
+                self.prepare(alloc, &script.lists, script.words.as_slice(), witness)?;
+                self.turns(alloc, &script.lists, depth, seed, witness)
             }
         }
     }

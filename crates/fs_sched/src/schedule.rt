@@ -1,7 +1,8 @@
 //! Schedules, and the threads that are drawn from a number.
 
-ghost use Rattle.std.specs.Prelude.{◌≡◌, ◌<◌, ◌∷◌, ℕ, suc};
+ghost use Rattle.std.specs.Prelude.{◌≡◌, ◌<◌, ◌∷◌, ◌%◌, ℕ, suc};
 ghost use Rattle.std.specs.List.{list_any};
+ghost use Rattle.rand_pcg.specs.Pcg.{pcg32};
 ghost use Rattle.fs_sched.specs.Schedules.{generator_of, seats_from, is_finish, is_drawn, is_events, ends_drawn, goes_on};
 
 use crate::seats::Divisor;
@@ -22,6 +23,10 @@ pub enum Schedule {
     /// Threads drawn from this number, until none has anything to do or as many are drawn as the limit; then rounds to
     /// the end. If the last word of the script is `!drawn`, the events of its words come first.
     Seeded(u64),
+    /// Turns by priorities of a depth, the first number, that are drawn from the second one; then rounds to the end. One turn less
+    /// than the depth is drawn, each as a thread and how many events it has; behind them each thread goes to its end, from a drawn one
+    /// on round about. If the last word of the script is `!drawn`, the events of its words come first.
+    Priorities(u64, u64),
 }
 
 /// The most threads that are drawn in a run. A draw of a thread that has nothing left to do counts too, and changes
@@ -37,6 +42,7 @@ impl Schedule {
             Schedule::Given => has_finish(words),
             Schedule::RoundRobin => true,
             Schedule::Seeded(_) => true,
+            Schedule::Priorities(_, _) => true,
         }
     }
 }
@@ -105,5 +111,15 @@ impl Draws {
         ensures there { result < threads.now }
     {
         threads.rest(self.generator.next_word())
+    }
+
+    /// What is left of the next word if a number divides it.
+    #[inline]
+    pub(crate) fn below(&mut self, number: &Divisor) -> usize
+        ensures drawn { result ≡ (pcg32 self.old).0 % number.now }
+        ensures next { self.new ≡ (pcg32 self.old).1 }
+        ensures there { result < number.now }
+    {
+        number.rest(self.generator.next_word())
     }
 }

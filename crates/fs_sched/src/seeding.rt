@@ -6,7 +6,7 @@ ghost use Rattle.fs_words.specs.declared.fault.ScriptFault.{ScriptFault};
 ghost use Rattle.fs_script.specs.Script.{script_of};
 ghost use Rattle.fs_script.specs.Limits.{call_limit};
 ghost use Rattle.fs_sched.specs.Devices.{KeepsDevices, WritesBeginning};
-ghost use Rattle.fs_sched.specs.Origins.{tree_at, CanBegin, HasNoRun, LacksRun, RunsOn};
+ghost use Rattle.fs_sched.specs.Origins.{tree_at, CanBegin, DrawnOn, HasNoRun, LacksRun};
 ghost use Rattle.fs_sched.specs.Runs.{calls_in};
 ghost use Rattle.fs_sched.specs.Seeds.{seed_line, lawful_line, IsLawfulOn, AreLawfulOn, AreRunsOf};
 ghost use Rattle.fs_sched.specs.code.Mades.{MakesRuns};
@@ -15,8 +15,8 @@ ghost use Rattle.fs_sched.specs.code.Stages.{stage_of};
 use crate::input::script_in;
 use crate::origin::Origin;
 use crate::play::Play;
+use crate::policy::{Campaign, Policy};
 use crate::running::play;
-use crate::schedule::Schedule;
 use fs_journal::check_from;
 use fs_sched_witness::{Silent, Witness};
 use fs_script::Script;
@@ -42,15 +42,15 @@ fn push_line(seed: u64, verdict: &Verdict, lines: &mut Addition) -> Result<(), A
 }
 
 /// The run of a script that is drawn from a number: it is one piece.
-fn drawn(alloc: Global, from: &Origin, script: &Script, seed: u64) -> Result<Play, RunFault>
+fn drawn(alloc: Global, campaign: &Campaign, script: &Script, seed: u64) -> Result<Play, RunFault>
     requires few { calls_in script.now.lists ≤ call_limit script.now.limits }
-    requires begins { CanBegin from.now script.now.limits }
-    ensures runs { IfOk result (λ play. RunsOn from.now (Schedule.Seeded seed) script.now [] (stage_of play)) }
-    ensures start { IfOk result (λ play. play.core.start ≡ tree_at from.now script.now.limits) }
-    ensures fault { IfErr result (HasNoRun from.now script.now seed) }
+    requires begins { CanBegin campaign.now.from script.now.limits }
+    ensures runs { IfOk result (λ play. DrawnOn campaign.now seed script.now [] (stage_of play)) }
+    ensures start { IfOk result (λ play. play.core.start ≡ tree_at campaign.now.from script.now.limits) }
+    ensures fault { IfErr result (HasNoRun campaign.now script.now seed) }
 {
-    let core = from.core(alloc, script)?;
-    match play(alloc, core, script, Schedule::Seeded(seed), &mut Silent) {
+    let core = campaign.from.core(alloc, script)?;
+    match play(alloc, core, script, campaign.by.schedule(seed), &mut Silent) {
         Ok(run) => Ok(run.play),
         Err(fault) => Err(fault),
     }
@@ -59,20 +59,20 @@ fn drawn(alloc: Global, from: &Origin, script: &Script, seed: u64) -> Result<Pla
 /// Adds the line of the run that is drawn from a number, and answers whether it is lawful.
 fn push_run(
     alloc: Global,
-    from: &Origin,
+    campaign: &Campaign,
     script: &Script,
     seed: u64,
     lines: &mut Addition,
 ) -> Result<bool, RunFault>
     requires few { calls_in script.now.lists ≤ call_limit script.now.limits }
-    requires begins { CanBegin from.now script.now.limits }
-    ensures run { OnOk result (IsLawfulOn from.now script.now seed) }
+    requires begins { CanBegin campaign.now.from script.now.limits }
+    ensures run { OnOk result (IsLawfulOn campaign.now script.now seed) }
     ensures line { OnOk result (lines.new.added ≡ lines.old.added ++ lawful_line seed) }
     ensures lawful { IfOk result (λ lawful. lawful ≡ true) }
     ensures before { lines.new.before ≡ lines.old.before }
-    ensures fault { IfErr result (HasNoRun from.now script.now seed) }
+    ensures fault { IfErr result (HasNoRun campaign.now script.now seed) }
 {
-    let play = match drawn(alloc, from, script, seed) {
+    let play = match drawn(alloc, campaign, script, seed) {
         Ok(play) => play,
         Err(fault) => return Err(fault),
     };
@@ -86,28 +86,28 @@ fn push_run(
     }
 }
 
-/// The lines of so many runs of a script from a tree, or from the root alone, drawn from a number, the next one, and so on, and
-/// whether each says that its run is lawful, as by the clauses it does. A listener for progress hears of each run.
+/// The lines of so many runs of a campaign, drawn from a number, the next one, and so on, and whether each says that its run is
+/// lawful, as by the clauses it does. A listener for progress hears of each run.
 pub fn seeds_of<Listener: Witness>(
     alloc: Global,
-    from: &Origin,
+    campaign: &Campaign,
     script: &Script,
     seed: u64,
     runs: u64,
     witness: &mut Listener,
 ) -> Result<Made<bool>, RunFault>
     requires few { calls_in script.now.lists ≤ call_limit script.now.limits }
-    requires begins { CanBegin from.now script.now.limits }
+    requires begins { CanBegin campaign.now.from script.now.limits }
     requires seed { seed ≤ SEED_LIMIT }
     requires runs { runs ≤ RUN_LIMIT }
-    ensures ok { IfOk result (λ made. AreLawfulOn from.now script.now seed runs made.text.items) }
+    ensures ok { IfOk result (λ made. AreLawfulOn campaign.now script.now seed runs made.text.items) }
     ensures lawful { IfOk result (λ made. made.end ≡ true) }
-    ensures fault { IfErr result (LacksRun from.now script.now seed runs) }
+    ensures fault { IfErr result (LacksRun campaign.now script.now seed runs) }
 {
     let mut lines = Addition::new(Vec::new(alloc));
     let mut lawful = true;
     for run in 0..runs {
-        match push_run(alloc, from, script, seed + run, &mut lines) {
+        match push_run(alloc, campaign, script, seed + run, &mut lines) {
             Ok(well) => lawful = lawful && well,
             Err(fault) => return Err(fault),
         }
@@ -133,7 +133,11 @@ fn lines_of_script<Listener: Witness>(
 {
     let script = script_in(alloc, text.as_slice())?;
     drop(text);
-    seeds_of(alloc, &Origin::Root, &script, seed, runs, witness)
+    let campaign = Campaign {
+        from: Origin::Root,
+        by: Policy::Uniform,
+    };
+    seeds_of(alloc, &campaign, &script, seed, runs, witness)
 }
 
 /// Reads a script to its end, and runs it so many times, with the threads that are drawn from a number, the next one,

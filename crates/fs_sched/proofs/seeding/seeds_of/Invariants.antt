@@ -7,6 +7,6 @@ abbrev pub invariant-loop-run : goal.invariant-loop-run
 invariant-loop-run g l = record {
   before : l.lines.before ≡ [];
   lawful : l.lawful ≡ true;
-  each : (n : ℕ) → l.seed ≤ n → n < l.seed + l.run → IsLawfulOn l.from l.script n;
+  each : (n : ℕ) → l.seed ≤ n → n < l.seed + l.run → IsLawfulOn l.campaign l.script n;
   lines : l.lines.added ≡ flat_map lawful_line (range_with_len l.seed l.run);
 }
