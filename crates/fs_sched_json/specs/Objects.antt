@@ -5,9 +5,9 @@ use Rattle.fs_timeline.specs.declared.verdict.Verdict.{Verdict}
 use Rattle.fs_timeline.specs.declared.verdict.Verdict.TheVariants.{Lawful, Fault}
 use Rattle.fs_words.specs.Json.{string_text}
 use Rattle.fs_sched.specs.Checks.{kind_word}
-use Rattle.fs_sched.specs.Seeds.{AreRunsOf}
+use Rattle.fs_sched.specs.declared.policy.Policy.{Policy}
 use Rattle.fs_sched_start.specs.Starts.{AreRunsAt}
-use Rattle.fs_sched_find.specs.Finds.{IsSearchAt, IsSearchOf}
+use Rattle.fs_sched_find.specs.Finds.{IsSearchAt}
 use Rattle.fs_sched_find.specs.declared.what.Clause.{Clause}
 
 -- a verdict, and of a journal that is not lawful what is wrong with it
@@ -21,12 +21,8 @@ abbrev pub seed_text : ℕ → List ℕ
 seed_text n = codes "{\"seed\":" ++ (decimal n ++ codes ",\"lawful\":true}\n")
 
 -- each of so many runs is lawful, and the text says so, a line for each
-abbrev pub AreSeedsOf : ℕ → ℕ → List ℕ → List ℕ → Type 0
-AreSeedsOf seed runs input text = (lines : List ℕ) × AreRunsOf seed runs input lines × (text ≡ flat_map seed_text (range_with_len seed runs))
-
--- the same of runs from the tree that a text has
-abbrev pub AreSeedsAt : List ℕ → ℕ → ℕ → List ℕ → List ℕ → Type 0
-AreSeedsAt tree seed runs input text = (lines : List ℕ) × AreRunsAt tree seed runs input lines × (text ≡ flat_map seed_text (range_with_len seed runs))
+abbrev pub AreSeedsAt : Option (List ℕ) → Policy → ℕ → ℕ → List ℕ → List ℕ → Type 0
+AreSeedsAt tree by seed runs input text = (lines : List ℕ) × AreRunsAt tree by seed runs input lines × (text ≡ flat_map seed_text (range_with_len seed runs))
 
 -- what was found: the number from which the run is drawn, and the script with that run as its words
 abbrev pub found_text : Option ℕ → List ℕ → List ℕ
@@ -34,9 +30,5 @@ found_text (Some n) script = codes "{\"seed\":" ++ (decimal n ++ (codes ",\"scri
 found_text None script = codes "{\"seed\":null}\n"
 
 -- the same of a search of drawn runs of the script that an input has
-abbrev pub IsFoundOf : List (List Clause) → ℕ → ℕ → List ℕ → Option ℕ → List ℕ → Type 0
-IsFoundOf what seed runs input found text = (script : List ℕ) × IsSearchOf what seed runs input found script × (text ≡ found_text found script)
-
--- and of runs of it from the tree that a text has
-abbrev pub IsFoundAt : List (List Clause) → ℕ → ℕ → List ℕ → List ℕ → Option ℕ → List ℕ → Type 0
-IsFoundAt what seed runs tree input found text = (script : List ℕ) × IsSearchAt what seed runs tree input found script × (text ≡ found_text found script)
+abbrev pub IsFoundAt : Option (List ℕ) → Policy → List (List Clause) → ℕ → ℕ → List ℕ → Option ℕ → List ℕ → Type 0
+IsFoundAt tree by what seed runs input found text = (script : List ℕ) × IsSearchAt tree by what seed runs input found script × (text ≡ found_text found script)

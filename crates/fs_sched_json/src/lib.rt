@@ -1,19 +1,16 @@
 //! What runners answer, as objects of JSON, one a line.
 //!
 //! `check_object` writes the verdict on a journal, `seed_objects` those on drawn runs, and `find_object` what was found among them. These
-//! are the answers of `check_journal`, `run_seeds` and `find_seed`, in whose words their clauses speak. `seed_objects_from` and
-//! `find_object_from` are for runs from a tree, as `fs_sched_start::seeds_from` and `fs_sched_find::find_from` make them. The text is made
-//! before its first byte is written. `fs_sched_outcomes` writes its rows as JSON itself.
+//! are the answers of `check_journal`, `fs_sched_start::seeds_from` and `fs_sched_find::find_seed`, in whose words their clauses speak. The
+//! text is made before its first byte is written. `fs_sched_outcomes` writes its rows as JSON itself.
 //!
 //! The definitions are in `specs/Objects.antt`.
 #![tactic(auto)]
 
 mod checking;
 mod finding;
-mod from_tree;
 mod seeding;
 
 pub use checking::check_object;
 pub use finding::find_object;
-pub use from_tree::{find_object_from, seed_objects_from};
 pub use seeding::seed_objects;

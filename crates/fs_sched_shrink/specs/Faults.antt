@@ -1,4 +1,4 @@
--- The status after a fault of a script that is shrunk from a tree.
+-- The status after a fault of a script that is shrunk.
 use Rattle.std.specs.Prelude.{ℕ}
 use Rattle.fs_sched_start.specs.Faults.{status_of_start}
 use Rattle.fs_trace.specs.Faults.{status_of_schedule}
@@ -8,7 +8,7 @@ use Rattle.fs_sched_find.specs.declared.fault.FindFault.TheVariants as find
 use Rattle.fs_sched_shrink.specs.declared.fault.ShrinkFault.{ShrinkFault}
 use Rattle.fs_sched_shrink.specs.declared.fault.ShrinkFault.TheVariants.{Start, TooLong, NoCall}
 
--- that of the run from the tree, of a script that has no room, or of a call that is not there
+-- that of the run, of a script that has no room, or of a call that is not there
 abbrev pub status_of_shrink : ShrinkFault → ℕ
 status_of_shrink (Start f) = status_of_start f
 status_of_shrink TooLong = status_of_schedule schedule.TooLong

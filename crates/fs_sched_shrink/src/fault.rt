@@ -1,4 +1,4 @@
-//! Why nothing was written of a script that is shrunk from a tree.
+//! Why nothing was written of a script that is shrunk.
 
 ghost use Rattle.std.specs.Prelude.{◌≡◌};
 ghost use Rattle.fs_sched_shrink.specs.Faults.{status_of_shrink};
@@ -9,7 +9,7 @@ use fs_sched_start::StartFault;
 use fs_trace::ScheduleFault;
 use thiserror::Error;
 
-/// Why a script was not shrunk from a tree. After a failed write a beginning of its text was written, and after the others nothing.
+/// Why a script was not shrunk. After a failed write a beginning of its text was written, and after the others nothing.
 #[derive(Clone, Copy, Debug, PartialEq, Eq, Error)]
 pub enum ShrinkFault {
     /// The script, the tree, a device, memory or node numbers.
@@ -24,7 +24,7 @@ pub enum ShrinkFault {
 }
 
 impl ShrinkFault {
-    /// The status of a program that this fault ended: that of a run from a tree, of a written schedule, or 2 for a call that is not there.
+    /// The status of a program that this fault ended: that of a run, of a written schedule, or 2 for a call that is not there.
     pub fn status(&self) -> u8
         ensures { result ≡ status_of_shrink self.now }
     {

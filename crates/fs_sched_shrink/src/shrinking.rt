@@ -11,7 +11,7 @@ ghost use Rattle.fs_sched.specs.Origins.{CanBegin};
 ghost use Rattle.fs_sched.specs.Runs.{ReachesStop};
 ghost use Rattle.fs_sched.specs.declared.origin.Origin.{Origin};
 ghost use Rattle.fs_sched.specs.declared.schedule.Schedule.TheVariants.{Given};
-ghost use Rattle.fs_trace.specs.declared.fault.ScheduleFault.TheVariants as schedule;
+ghost use Rattle.fs_sched_start.specs.declared.fault.StartFault.TheVariants as start;
 ghost use Rattle.fs_sched_find.specs.Finds.{LacksCall, RunHasOn};
 ghost use Rattle.fs_sched_find.specs.What.{names_calls};
 ghost use Rattle.fs_sched_shrink.specs.Moves.{moved};
@@ -21,14 +21,15 @@ ghost use Rattle.fs_sched_shrink.specs.code.Mades.{IsUnshrunk, MakesShrinking};
 ghost use Rattle.fs_sched_shrink.specs.declared.limits.TheConstants.{TRIAL_LIMIT};
 
 use crate::cutting::{cut_by_halves, cut_ones};
+use crate::fault::ShrinkFault;
 use crate::moving::{calls_before, moved};
 use crate::room::{NoRoom, Unshrunk};
 use crate::telling::what_text;
 use crate::trying::{script_with, text_of};
 use fs_sched::{Origin, RunFault, Schedule, between, script_in};
-use fs_sched_find::{Clauses, FindFault, names_calls, run_has_at};
+use fs_sched_find::{Clauses, names_calls, run_has_at};
+use fs_sched_start::StartFault;
 use fs_script::{CallLists, Script};
-use fs_trace::ScheduleFault;
 use fs_verdict::{Made, Sink, Source, transform};
 use std::alloc::{AllocError, Global};
 
@@ -204,17 +205,17 @@ fn shrunk_in(
     alloc: Global,
     text: &[u8],
     what: &[Clauses],
-) -> Result<Made<Option<Shrunk>>, FindFault>
+) -> Result<Made<Option<Shrunk>>, ShrinkFault>
     ensures { MakesShrinking what.now text.now result }
 {
     let script = script_in(alloc, text)?;
     if !names_calls(&script, what) {
-        return Err(FindFault::NoCall);
+        return Err(ShrinkFault::NoCall);
     }
     match shrink(alloc, &Origin::Root, text, &script, what) {
         Ok(made) => Ok(made),
-        Err(Unshrunk::Run(fault)) => Err(FindFault::Schedule(ScheduleFault::Run(fault))),
-        Err(Unshrunk::TooLong) => Err(FindFault::Schedule(ScheduleFault::TooLong)),
+        Err(Unshrunk::Run(fault)) => Err(ShrinkFault::Start(StartFault::Run(fault))),
+        Err(Unshrunk::TooLong) => Err(ShrinkFault::TooLong),
     }
 }
 
@@ -227,7 +228,7 @@ pub fn shrink_script<R: Source, W: Sink>(
     reader: &mut R,
     writer: &mut W,
     what: &[Clauses],
-) -> Result<Option<Shrunk>, FindFault>
+) -> Result<Option<Shrunk>, ShrinkFault>
     requires reads { R.failures reader.old < 2 ^ 64 - 1 }
     requires writes { W.failures writer.old < 2 ^ 64 - 1 }
 
@@ -236,20 +237,21 @@ pub fn shrink_script<R: Source, W: Sink>(
         × IfSome (R.remaining reader.old) (λ input. IsShrinkingOf what.now input shrunk text)
         × Appends (W.contents writer.old) (W.contents writer.new) text) }
     ensures end { OnOk result (IsAtEnd (R.remaining reader.new)) }
-    ensures input { (f : ScriptFault) → result ≡ Err (FindFault.Schedule (schedule.Run (RunFault.Input f)))
+    ensures input { (f : ScriptFault) → result ≡ Err (ShrinkFault.Start (start.Run (RunFault.Input f)))
         → IfSome (R.remaining reader.old) (λ input. script_of input ≡ Err f) }
-    ensures no_call { result ≡ Err FindFault.NoCall → IfSome (R.remaining reader.old) (LacksCall what.now) }
-    ensures full { result ≢ Err (FindFault.Schedule (schedule.Run RunFault.Full)) }
+    ensures no_call { result ≡ Err ShrinkFault.NoCall → IfSome (R.remaining reader.old) (LacksCall what.now) }
+    ensures no_tree { (f : ScriptFault) → result ≢ Err (ShrinkFault.Start (start.Tree f)) }
+    ensures full { result ≢ Err (ShrinkFault.Start (start.Run RunFault.Full)) }
 
     // `UnderWay` comes where the script comes to a checkpoint while calls are under way; then it has no run.
-    ensures under_way { (call : ℕ) → result ≡ Err (FindFault.Schedule (schedule.Run (RunFault.UnderWay call)))
+    ensures under_way { (call : ℕ) → result ≡ Err (ShrinkFault.Start (start.Run (RunFault.UnderWay call)))
         → IfSome (R.remaining reader.old) (λ input. ReachesStop Given input (RunFault.UnderWay call)) }
 
     // A device is blamed only where it failed in this call; after a failed write a beginning of the text stands, and after every
     // other error nothing was written.
     ensures devices { KeepsDevices R.failures W.failures reader.old reader.new writer.old writer.new
-        (FindFault.Schedule (schedule.Run RunFault.Read)) (FindFault.Schedule (schedule.Run RunFault.Write)) result }
-    ensures beginning { IsErrOf result (FindFault.Schedule (schedule.Run RunFault.Write)) → (shrunk : Option Shrunk) × (text : List ℕ)
+        (ShrinkFault.Start (start.Run RunFault.Read)) (ShrinkFault.Start (start.Run RunFault.Write)) result }
+    ensures beginning { IsErrOf result (ShrinkFault.Start (start.Run RunFault.Write)) → (shrunk : Option Shrunk) × (text : List ℕ)
         × IfSome (R.remaining reader.old) (λ input. IsShrinkingOf what.now input shrunk text)
         × WritesBeginning text (W.contents writer.old) (W.contents writer.new) }
 {
@@ -257,7 +259,7 @@ pub fn shrink_script<R: Source, W: Sink>(
         alloc,
         reader,
         writer,
-        |text| -> Result<Made<Option<Shrunk>>, FindFault>
+        |text| -> Result<Made<Option<Shrunk>>, ShrinkFault>
             ensures { MakesShrinking what.entry.now text.items result }
         { shrunk_in(alloc, text.as_slice(), what) },
     );

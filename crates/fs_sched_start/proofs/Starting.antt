@@ -1,5 +1,5 @@
 -- Runs from a tree: what is said of one is said of each.
-use Rattle.std.proofs.Common.{◌≡◌, ◌≢◌, ◌<◌, ◌^◌, ℕ, true, List, length, Result, Ok, sym, ap, ◌∙◌, subst}
+use Rattle.std.proofs.Common.{◌≡◌, ◌≢◌, ◌<◌, ◌^◌, ℕ, true, false, List, length, Option, Some, None, Result, Ok, sym, ap, ◌∙◌, subst}
 use Rattle.std.specs.List.{list_any}
 use Rattle.fs_calls.specs.Starts.{Start}
 use Rattle.fs_nodes.specs.Stores.{graph_of}
@@ -8,6 +8,7 @@ use Rattle.fs_core.specs.CoreValues.{CoreValue, state_of}
 use Rattle.fs_machine.specs.States.{State, Run}
 use Rattle.fs_laws.proofs.journal.ViewOfTimeline.{linearizes}
 use Rattle.fs_linearizable.proofs.LawfulLemmas.{lawful_is_linearizable}
+use Rattle.fs_words.specs.Headers.{is_too_long}
 use Rattle.fs_words.specs.declared.fault.ScriptFault.{ScriptFault}
 use Rattle.fs_script.specs.Journals.{start_of}
 use Rattle.fs_script.specs.Script.{script_of}
@@ -20,16 +21,19 @@ use Rattle.fs_sched.specs.Schedules.{is_finish}
 use Rattle.fs_sched.specs.code.Mades.{IsRead}
 use Rattle.fs_sched.specs.code.Stages.{IsWhy}
 use Rattle.fs_sched.specs.declared.running.RunEnd.{RunEnd}
+use Rattle.fs_sched.specs.declared.policy.Campaign.{Campaign}
+use Rattle.fs_sched.specs.declared.policy.Policy.{Policy}
 use Rattle.fs_sched.specs.declared.schedule.Schedule.{Schedule}
 use Rattle.fs_sched.specs.declared.schedule.Schedule.TheVariants.{Given}
 use Rattle.fs_sched.proofs.OneText.{one_from, of_one, one_again}
+use Rattle.fs_sched.proofs.RunLemmas.{script_short}
 use Rattle.fs_sched.proofs.Whole.{last_keeps, whole_end, always_goes_on, finish_goes_on}
 use Rattle.fs_verdict.specs.declared.fault.RunFault.{RunFault}
 use Rattle.fs_verdict.specs.declared.fault.RunFault.TheVariants as run
 use Rattle.fs_sched_start.specs.Laws.{OneRunFrom}
 use Rattle.fs_sched.specs.Origins.{IsBefore, RunsAt, LacksRun}
-use Rattle.fs_sched_start.specs.Starts.{AreGiven, IsRunAt, AreOfEachRunAt, AreOfTheRunAt, IsLinearizableRunAt, EachIsReadAgainAt, IsFaultAt, IsFaultOfRunsAt}
-use Rattle.fs_sched_start.specs.code.Mades.{IsCoreAt, IsFaultOfGiven, IsNoCore}
+use Rattle.fs_sched_start.specs.Starts.{AreGiven, ArePlanned, IsRunAt, AreOfEachRunAt, AreOfTheRunAt, IsLinearizableRunAt, EachIsReadAgainAt, HasTreeFaultAt, IsFaultAt, IsFaultOfRunsAt}
+use Rattle.fs_sched_start.specs.code.Mades.{IsCoreAt, IsFaultOfGiven, IsFaultOfPlanned, IsNoCore}
 use Rattle.fs_sched_start.specs.declared.fault.StartFault.{StartFault}
 use Rattle.fs_sched_start.specs.declared.fault.StartFault.TheVariants.{Run as Runs, Tree}
 use Rattle.fs_sched.proofs.Origins.{kept_first, same_before}
@@ -137,22 +141,42 @@ linearizable_at schedule tree input end text (script, start, given, told, last, 
 
 -- ---- drawn runs
 
-pub of_given : (seed runs : ℕ) (tree input : List ℕ) (fault : StartFault) → IsFaultOfGiven tree input fault → IsFaultOfRunsAt seed runs tree input fault
-of_given seed runs tree input (Runs (run.Input f)) is = is
-of_given seed runs tree input (Runs run.Read) is = absurd is
-of_given seed runs tree input (Runs run.Write) is = absurd is
-of_given seed runs tree input (Runs run.OutOfMemory) is = tt
-of_given seed runs tree input (Runs run.Full) is = absurd is
-of_given seed runs tree input (Runs (run.UnderWay c)) is = absurd is
-of_given seed runs tree input (Tree f) is = is
+pub of_planned : (tree : Option (List ℕ)) (by : Policy) (seed runs : ℕ) (input : List ℕ) (fault : StartFault) → IsFaultOfPlanned tree input fault → IsFaultOfRunsAt tree by seed runs input fault
+of_planned tree by seed runs input (Runs (run.Input f)) is = is
+of_planned tree by seed runs input (Runs run.Read) is = absurd is
+of_planned tree by seed runs input (Runs run.Write) is = absurd is
+of_planned tree by seed runs input (Runs run.OutOfMemory) is = tt
+of_planned tree by seed runs input (Runs run.Full) is = absurd is
+of_planned tree by seed runs input (Runs (run.UnderWay c)) is = absurd is
+of_planned tree by seed runs input (Tree f) is = is
 
-pub of_runs : (seed runs : ℕ) (tree input : List ℕ) (script : Script) (start : Start) (fault : RunFault) → AreGiven tree input script start → LacksRun (At start) script seed runs fault → IsFaultOfRunsAt seed runs tree input (Runs fault)
-of_runs seed runs tree input script start (run.Input f) given (n, least, below, is) = absurd is
-of_runs seed runs tree input script start run.Read given (n, least, below, is) = absurd is
-of_runs seed runs tree input script start run.Write given (n, least, below, is) = absurd is
-of_runs seed runs tree input script start run.OutOfMemory given lacks = tt
-of_runs seed runs tree input script start run.Full given lacks = (script, start, given, lacks)
-of_runs seed runs tree input script start (run.UnderWay c) given (n, least, below, is) = absurd is
+pub of_runs : (tree : Option (List ℕ)) (by : Policy) (seed runs : ℕ) (input : List ℕ) (script : Script) (drawn : Campaign) (fault : RunFault) → ArePlanned tree by input script drawn → LacksRun drawn script seed runs fault → IsFaultOfRunsAt tree by seed runs input (Runs fault)
+of_runs tree by seed runs input script drawn (run.Input f) planned (n, least, below, is) = absurd is
+of_runs tree by seed runs input script drawn run.Read planned (n, least, below, is) = absurd is
+of_runs tree by seed runs input script drawn run.Write planned (n, least, below, is) = absurd is
+of_runs tree by seed runs input script drawn run.OutOfMemory planned lacks = tt
+of_runs tree by seed runs input script drawn run.Full planned lacks = (script, drawn, planned, lacks)
+of_runs tree by seed runs input script drawn (run.UnderWay c) planned (n, least, below, is) = absurd is
+
+-- ---- the script and how its runs are drawn
+
+-- from the root alone there is no text of a tree
+pub root_planned : (input : List ℕ) (fault : RunFault) → IsFaultOf (script_of input) fault → IsFaultOfPlanned None input (Runs fault)
+root_planned input (run.Input f) is = is
+root_planned input run.Read is = absurd is
+root_planned input run.Write is = absurd is
+root_planned input run.OutOfMemory is = tt
+root_planned input run.Full is = absurd is
+root_planned input (run.UnderWay c) is = absurd is
+
+pub tree_planned : (tree input : List ℕ) (fault : StartFault) → IsFaultOfGiven tree input fault → IsFaultOfPlanned (Some tree) input fault
+tree_planned tree input (Runs (run.Input f)) is = is
+tree_planned tree input (Runs run.Read) is = absurd is
+tree_planned tree input (Runs run.Write) is = absurd is
+tree_planned tree input (Runs run.OutOfMemory) is = tt
+tree_planned tree input (Runs run.Full) is = absurd is
+tree_planned tree input (Runs (run.UnderWay c)) is = absurd is
+tree_planned tree input (Tree f) is = is
 
 -- ---- the script and the tree that were read
 
@@ -172,3 +196,8 @@ no_script tree input run.Write is = absurd is
 no_script tree input run.OutOfMemory is = tt
 no_script tree input run.Full is = absurd is
 no_script tree input (run.UnderWay c) is = absurd is
+
+-- a text of a script that is there is not too long
+pub tree_short : (tree : Option (List ℕ)) (text items : List ℕ) (f : ScriptFault) → text ≡ items → HasTreeFaultAt tree text (Tree f) → is_too_long items ≡ false
+tree_short None text items f e has = absurd has
+tree_short (Some tree) text items f e (script, is, none) = script_short text items script e is

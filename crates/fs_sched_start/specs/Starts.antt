@@ -1,5 +1,6 @@
 -- Runs of scripts from a tree, by the limits of the script.
-use Rattle.std.specs.Prelude.{ℕ, ◌≡◌, List, Ok, Err}
+use Rattle.std.specs.Prelude.{ℕ, ◌≡◌, List, Option, Some, None, Ok, Err}
+use Rattle.fs_names.specs.declared.limits.Limits.{Limits}
 use Rattle.fs_calls.specs.Starts.{Start}
 use Rattle.fs_timeline.specs.declared.entry.Entry.{Entry}
 use Rattle.fs_linearizable.specs.Linearizable.{history, IsLinearizable}
@@ -12,7 +13,10 @@ use Rattle.fs_sched.specs.Origins.{LacksRun}
 pub use Rattle.fs_sched.specs.Origins.{IsBefore, RunsAt, StopsAtSome}
 use Rattle.fs_sched.specs.Runs.{Stage, AreOfRun}
 use Rattle.fs_sched.specs.Seeds.{AreLawfulOn}
+use Rattle.fs_sched.specs.declared.origin.Origin.{Origin}
 use Rattle.fs_sched.specs.declared.origin.Origin.TheVariants as origin
+use Rattle.fs_sched.specs.declared.policy.Campaign.{Campaign}
+use Rattle.fs_sched.specs.declared.policy.Policy.{Policy}
 use Rattle.fs_sched.specs.declared.running.RunEnd.{RunEnd}
 use Rattle.fs_sched.specs.declared.schedule.Schedule.{Schedule}
 use Rattle.fs_verdict.specs.declared.fault.RunFault.{RunFault}
@@ -67,20 +71,36 @@ IsFaultAt schedule tree input (Run run.Full) = ReachesStopAt schedule tree input
 IsFaultAt schedule tree input (Run (run.UnderWay c)) = ReachesStopAt schedule tree input (run.UnderWay c)
 IsFaultAt schedule tree input (Tree f) = HasTreeFault tree input (Tree f)
 
--- so many runs of the script from the tree are drawn, each is lawful, and the text says so
-abbrev pub AreRunsAt : List ℕ → ℕ → ℕ → List ℕ → List ℕ → Type 0
-AreRunsAt tree seed runs input text = (script : Script) × (start : Start) × AreGiven tree input script start × AreLawfulOn (origin.Tree start) script seed runs text
+-- ---- runs that are drawn
 
--- one of these runs comes to a begin that finds all numbers in use
-abbrev pub SomeFillsAt : List ℕ → ℕ → ℕ → List ℕ → Type 0
-SomeFillsAt tree seed runs input = (script : Script) × (start : Start) × AreGiven tree input script start × LacksRun (origin.Tree start) script seed runs run.Full
+-- where runs begin by these limits: at the root alone, or at the tree that a text has
+abbrev pub BeginsAt : Limits → Option (List ℕ) → Origin → Type 0
+BeginsAt limits None from = from ≡ origin.Root
+BeginsAt limits (Some tree) from = (start : Start) × (start_of limits tree ≡ Ok start) × (from ≡ origin.Tree start)
+
+-- an input has this script, and this is the campaign of its runs by the text of a tree, if there is one, and by a policy
+abbrev pub ArePlanned : Option (List ℕ) → Policy → List ℕ → Script → Campaign → Type 0
+ArePlanned tree by input script drawn = (script_of input ≡ Ok script) × BeginsAt script.limits tree drawn.from × (drawn.by ≡ by)
+
+-- the same of one whose text leaves no tree
+abbrev pub HasTreeFaultAt : Option (List ℕ) → List ℕ → StartFault → Type 0
+HasTreeFaultAt None input f = ⊥
+HasTreeFaultAt (Some tree) input f = HasTreeFault tree input f
+
+-- so many runs of the script are drawn, each is lawful, and the text says so
+abbrev pub AreRunsAt : Option (List ℕ) → Policy → ℕ → ℕ → List ℕ → List ℕ → Type 0
+AreRunsAt tree by seed runs input text = (script : Script) × (drawn : Campaign) × ArePlanned tree by input script drawn × AreLawfulOn drawn script seed runs text
+
+-- one of these runs comes to a begin that finds all numbers in use; from the root alone none does
+abbrev pub SomeFillsAt : Option (List ℕ) → Policy → ℕ → ℕ → List ℕ → Type 0
+SomeFillsAt tree by seed runs input = (script : Script) × (drawn : Campaign) × ArePlanned tree by input script drawn × LacksRun drawn script seed runs run.Full
 
 -- why there are none: the input's fault, the tree's, out of memory, or too few numbers
-abbrev pub IsFaultOfRunsAt : ℕ → ℕ → List ℕ → List ℕ → StartFault → Type 0
-IsFaultOfRunsAt seed runs tree input (Run (run.Input f)) = script_of input ≡ Err f
-IsFaultOfRunsAt seed runs tree input (Run run.Read) = ⊥
-IsFaultOfRunsAt seed runs tree input (Run run.Write) = ⊥
-IsFaultOfRunsAt seed runs tree input (Run run.OutOfMemory) = Unit {0}
-IsFaultOfRunsAt seed runs tree input (Run run.Full) = SomeFillsAt tree seed runs input
-IsFaultOfRunsAt seed runs tree input (Run (run.UnderWay c)) = ⊥
-IsFaultOfRunsAt seed runs tree input (Tree f) = HasTreeFault tree input (Tree f)
+abbrev pub IsFaultOfRunsAt : Option (List ℕ) → Policy → ℕ → ℕ → List ℕ → StartFault → Type 0
+IsFaultOfRunsAt tree by seed runs input (Run (run.Input f)) = script_of input ≡ Err f
+IsFaultOfRunsAt tree by seed runs input (Run run.Read) = ⊥
+IsFaultOfRunsAt tree by seed runs input (Run run.Write) = ⊥
+IsFaultOfRunsAt tree by seed runs input (Run run.OutOfMemory) = Unit {0}
+IsFaultOfRunsAt tree by seed runs input (Run run.Full) = SomeFillsAt tree by seed runs input
+IsFaultOfRunsAt tree by seed runs input (Run (run.UnderWay c)) = ⊥
+IsFaultOfRunsAt tree by seed runs input (Tree f) = HasTreeFaultAt tree input (Tree f)

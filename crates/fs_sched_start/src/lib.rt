@@ -5,7 +5,8 @@
 //! `run_script` does. The whole text is made before its first byte is written. `Read` or `Write` is answered only if the reader or the
 //! writer failed during this call.
 //!
-//! `seeds_from` does so with drawn schedules and checks each journal, as `run_seeds` does. `given_in` reads both texts for other runners.
+//! `seeds_from` does so with the schedules that a `Policy` draws and checks each journal, as `run_seeds` does; without a tree it begins at
+//! the root alone. `planned_in` reads both texts for other runners of drawn runs, and `given_in` for those of one.
 //!
 //! Enter at `run_from`, with what `whole_text` reads of a file. The definitions are in `specs/`: `Starts` (runs from a tree, and what is
 //! said of each of them), `Faults`. The module `laws` says why there is one text, whatever numbers the nodes of the tree get. Two states
@@ -15,10 +16,12 @@
 mod fault;
 mod given;
 pub mod laws;
+mod planned;
 mod running;
 mod seeding;
 
 pub use fault::StartFault;
 pub use given::{Given, given_in};
+pub use planned::{Planned, TreeText, planned_in};
 pub use running::{run_from, whole_text};
 pub use seeding::seeds_from;

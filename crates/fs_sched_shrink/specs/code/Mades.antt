@@ -7,10 +7,8 @@ use Rattle.fs_sched.specs.declared.origin.Origin.{Origin}
 use Rattle.fs_verdict.specs.declared.shell.Made.{Made}
 use Rattle.fs_sched.specs.declared.schedule.Schedule.TheVariants.{Given}
 use Rattle.fs_sched_start.specs.Starts.{IsFaultAt}
-use Rattle.fs_trace.specs.declared.fault.ScheduleFault.TheVariants.{Run, TooManyEvents, TooLong}
+use Rattle.fs_sched_start.specs.declared.fault.StartFault.TheVariants.{Run, Tree}
 use Rattle.fs_sched_find.specs.Finds.{LacksCall}
-use Rattle.fs_sched_find.specs.declared.fault.FindFault.{FindFault}
-use Rattle.fs_sched_find.specs.declared.fault.FindFault.TheVariants.{Schedule, NoCall}
 use Rattle.fs_sched_find.specs.declared.what.Clause.{Clause}
 use Rattle.fs_sched_shrink.specs.Shrinks.{IsShrinkingAt, IsShrinkingOf}
 use Rattle.fs_sched_shrink.specs.declared.fault.ShrinkFault.{ShrinkFault}
@@ -25,14 +23,14 @@ IsUnshrunk from script (unshrunk.Run fault) = IsStopOn from Given script fault
 IsUnshrunk from script unshrunk.TooLong = Unit {0}
 
 -- why nothing is written of the script that an input has
-abbrev pub IsFaultOfShrink : List (List Clause) → List ℕ → FindFault → Type 0
-IsFaultOfShrink what input (Schedule (Run fault)) = IsFaultOfRun Given input fault
-IsFaultOfShrink what input (Schedule TooManyEvents) = ⊥
-IsFaultOfShrink what input (Schedule TooLong) = Unit {0}
-IsFaultOfShrink what input NoCall = LacksCall what input
+abbrev pub IsFaultOfShrink : List (List Clause) → List ℕ → ShrinkFault → Type 0
+IsFaultOfShrink what input (shrink.Start (Run fault)) = IsFaultOfRun Given input fault
+IsFaultOfShrink what input (shrink.Start (Tree f)) = ⊥
+IsFaultOfShrink what input shrink.TooLong = Unit {0}
+IsFaultOfShrink what input shrink.NoCall = LacksCall what input
 
 -- the smallest script; or why there is none
-pub record MakesShrinking (what : List (List Clause)) (input : List ℕ) (result : Result (Made (Option Shrunk)) FindFault) : Type 0 where
+pub record MakesShrinking (what : List (List Clause)) (input : List ℕ) (result : Result (Made (Option Shrunk)) ShrinkFault) : Type 0 where
   pub shrunk : IfOk result (λ made. IsShrinkingOf what input made.end made.text.items)
   pub fault : IfErr result (IsFaultOfShrink what input)
 

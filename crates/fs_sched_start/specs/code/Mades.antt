@@ -1,5 +1,5 @@
 -- What is made of the texts of a script and of a tree, before it is written.
-use Rattle.std.specs.Prelude.{◌≡◌, ℕ, Bool, true, [], List, Result, Ok, Err, IfOk, OnOk, IfErr}
+use Rattle.std.specs.Prelude.{◌≡◌, ℕ, Bool, true, [], List, Option, Result, Ok, Err, IfOk, OnOk, IfErr}
 use Rattle.fs_names.specs.Limits.{node_limit}
 use Rattle.fs_names.specs.declared.limits.Limits.{Limits}
 use Rattle.fs_calls.specs.Starts.{Start}
@@ -11,12 +11,14 @@ use Rattle.fs_script.specs.Journals.{start_of}
 use Rattle.fs_script.specs.Script.{script_of}
 use Rattle.fs_sched.specs.Origins.{Fits}
 use Rattle.fs_sched.specs.declared.origin.Origin.TheVariants as origin
+use Rattle.fs_sched.specs.declared.policy.Policy.{Policy}
 use Rattle.fs_sched.specs.declared.running.RunEnd.{RunEnd}
 use Rattle.fs_sched.specs.declared.schedule.Schedule.{Schedule}
 use Rattle.fs_verdict.specs.declared.fault.RunFault.TheVariants as run
 use Rattle.fs_sched_start.specs.Faults.{IsTreeFault}
-use Rattle.fs_sched_start.specs.Starts.{AreGiven, AreRunsAt, IsRunAt, EachIsReadAgainAt, HasTreeFault, IsFaultAt, IsFaultOfRunsAt}
+use Rattle.fs_sched_start.specs.Starts.{AreGiven, ArePlanned, AreRunsAt, IsRunAt, EachIsReadAgainAt, HasTreeFault, HasTreeFaultAt, IsFaultAt, IsFaultOfRunsAt}
 use Rattle.fs_sched_start.specs.declared.given.Given.{Given}
+use Rattle.fs_sched_start.specs.declared.planned.Planned.{Planned}
 use Rattle.fs_sched_start.specs.declared.fault.StartFault.{StartFault}
 use Rattle.fs_sched_start.specs.declared.fault.StartFault.TheVariants.{Run, Tree}
 
@@ -51,8 +53,19 @@ IsFaultOfGiven tree input (Run run.OutOfMemory) = Unit {0}
 IsFaultOfGiven tree input (Run f) = ⊥
 IsFaultOfGiven tree input (Tree f) = HasTreeFault tree input (Tree f)
 
--- the lines of drawn runs from a tree, each of which is lawful; or why there are none
-pub record MakesRunsAt (seed : ℕ) (runs : ℕ) (tree : List ℕ) (input : List ℕ) (result : Result (Made Bool) StartFault) : Type 0 where
-  pub ok : IfOk result (λ made. AreRunsAt tree seed runs input made.text.items)
+-- a script and the campaign of its runs, by two texts and a policy
+abbrev pub IsPlanned : Option (List ℕ) → Policy → List ℕ → Planned → Type 0
+IsPlanned tree by input planned = ArePlanned tree by input planned.script planned.campaign
+
+-- why there are none: the input's fault, the tree's, or out of memory
+abbrev pub IsFaultOfPlanned : Option (List ℕ) → List ℕ → StartFault → Type 0
+IsFaultOfPlanned tree input (Run (run.Input f)) = script_of input ≡ Err f
+IsFaultOfPlanned tree input (Run run.OutOfMemory) = Unit {0}
+IsFaultOfPlanned tree input (Run f) = ⊥
+IsFaultOfPlanned tree input (Tree f) = HasTreeFaultAt tree input (Tree f)
+
+-- the lines of drawn runs, each of which is lawful; or why there are none
+pub record MakesRunsAt (tree : Option (List ℕ)) (by : Policy) (seed : ℕ) (runs : ℕ) (input : List ℕ) (result : Result (Made Bool) StartFault) : Type 0 where
+  pub ok : IfOk result (λ made. AreRunsAt tree by seed runs input made.text.items)
   pub lawful : IfOk result (λ made. made.end ≡ true)
-  pub fault : IfErr result (IsFaultOfRunsAt seed runs tree input)
+  pub fault : IfErr result (IsFaultOfRunsAt tree by seed runs input)
