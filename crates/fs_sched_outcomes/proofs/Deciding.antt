@@ -2,16 +2,16 @@
 use Rattle.std.proofs.Common.{ℕ, ◌≡◌, ◌+◌, ◌<◌, ◌&&◌, true, List, [], ◌∷◌, ◌++◌, Option, length, drop, get_or, refl, ap₂}
 use Rattle.std.proofs.lemmas.List.{drop_more}
 use Rattle.fs_script.specs.declared.script.Script.{Script}
-use Rattle.fs_sched.specs.declared.origin.Origin.{Origin}
+use Rattle.fs_sched.specs.declared.policy.Campaign.{Campaign}
 use Rattle.fs_sched_outcomes.specs.Asserts.{all_hold, holds, AreDecidedOn, IsDecidedOn}
 use Rattle.fs_sched_outcomes.specs.declared.assertion.Assertion.{Assertion}
 
-pub decided_more : (at : Origin) (script : Script) (seed runs : ℕ) (asserts : List Assertion) (a : Assertion) (ds : List (Option ℕ)) (d : Option ℕ)
-    → AreDecidedOn at script seed runs asserts ds → IsDecidedOn at script seed runs a d → AreDecidedOn at script seed runs (asserts ++ a ∷ []) (ds ++ d ∷ [])
-decided_more at script seed runs [] a [] d all one = (one, tt)
-decided_more at script seed runs [] a (e ∷ ds) d all one = absurd all
-decided_more at script seed runs (b ∷ asserts) a [] d all one = absurd all
-decided_more at script seed runs (b ∷ asserts) a (e ∷ ds) d all one = (all.0, decided_more at script seed runs asserts a ds d all.1 one)
+pub decided_more : (drawn : Campaign) (script : Script) (seed runs : ℕ) (asserts : List Assertion) (a : Assertion) (ds : List (Option ℕ)) (d : Option ℕ)
+    → AreDecidedOn drawn script seed runs asserts ds → IsDecidedOn drawn script seed runs a d → AreDecidedOn drawn script seed runs (asserts ++ a ∷ []) (ds ++ d ∷ [])
+decided_more drawn script seed runs [] a [] d all one = (one, tt)
+decided_more drawn script seed runs [] a (e ∷ ds) d all one = absurd all
+decided_more drawn script seed runs (b ∷ asserts) a [] d all one = absurd all
+decided_more drawn script seed runs (b ∷ asserts) a (e ∷ ds) d all one = (all.0, decided_more drawn script seed runs asserts a ds d all.1 one)
 
 -- one that holds and the others
 pub hold_next : (asserts : List Assertion) (ds : List (Option ℕ)) (at : ℕ) (a : Assertion) (d : Option ℕ) → at < length asserts → at < length ds

@@ -1,8 +1,7 @@
 pub mod AddLemmas
-pub mod HeardLemmas
 pub mod RowLemmas
 pub mod OutcomeLemmas
-pub mod StopLemmas
+pub mod Planning
 pub mod ListLemmas
 pub mod AddingLemmas
 pub mod Holding

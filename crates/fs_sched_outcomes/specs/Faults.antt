@@ -1,5 +1,6 @@
--- Why nothing is said of runs from a tree, and the status after it.
-use Rattle.std.specs.Prelude.{ℕ, List}
+-- Why nothing is said of drawn runs, and the status after it.
+use Rattle.std.specs.Prelude.{ℕ, List, Option}
+use Rattle.fs_sched.specs.declared.policy.Policy.{Policy}
 use Rattle.fs_sched_start.specs.Faults.{status_of_start}
 use Rattle.fs_sched_start.specs.Starts.{IsFaultOfRunsAt}
 use Rattle.fs_sched_outcomes.specs.Asserts.{LacksCalls}
@@ -13,6 +14,6 @@ status_of_outcomes_fault (Start f) = status_of_start f
 status_of_outcomes_fault NoCall = 2
 
 -- the fault of the runs, or a call that an assertion names and the script lacks
-abbrev pub IsFaultOfAssertedAt : List Assertion → ℕ → ℕ → List ℕ → List ℕ → OutcomesFault → Type 0
-IsFaultOfAssertedAt asserts seed runs tree input (Start f) = IsFaultOfRunsAt seed runs tree input f
-IsFaultOfAssertedAt asserts seed runs tree input NoCall = LacksCalls asserts input
+abbrev pub IsFaultOfAssertedAt : List Assertion → Option (List ℕ) → Policy → ℕ → ℕ → List ℕ → OutcomesFault → Type 0
+IsFaultOfAssertedAt asserts tree by seed runs input (Start f) = IsFaultOfRunsAt tree by seed runs input f
+IsFaultOfAssertedAt asserts tree by seed runs input NoCall = LacksCalls asserts input

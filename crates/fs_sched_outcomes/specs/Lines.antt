@@ -6,7 +6,9 @@ use Rattle.sha2.specs.Sha256.{sha256}
 use Rattle.fs_words.specs.Json.{string_text}
 use Rattle.fs_words.specs.Words.{hex_word}
 use Rattle.fs_sched_outcomes.specs.declared.lines.Form.{Form}
-use Rattle.fs_sched_outcomes.specs.declared.places.Place.{Place}
+use Rattle.fs_sched_seen.specs.Seen.{seen_object}
+use Rattle.fs_sched_seen.specs.declared.places.Place.{Place}
+use Rattle.fs_sched_seen.specs.declared.seen.Seen.{Seen}
 use Rattle.fs_sched_outcomes.specs.declared.rows.Row.{Row}
 
 -- the name of a call: its thread, and its turn, counted from 1
@@ -110,6 +112,10 @@ row_by form columns row = if form.json then row_object form.trees columns row el
 -- the lines of rows
 abbrev pub rows_text : Form → List (List ℕ) → List Row → List ℕ
 rows_text form labels rows = flat_map (row_by form (columns_of form.all labels rows)) rows
+
+-- as objects, one more follows: how much was seen
+abbrev pub seen_text : Form → Seen → List ℕ
+seen_text form seen = if form.json then seen_object seen else []
 
 -- ---- rows that were read: in the place of a tree they have the digits that stand for it
 

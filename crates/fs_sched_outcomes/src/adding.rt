@@ -255,7 +255,7 @@ fn sum_in(alloc: Global, text: &[u8], form: Form) -> Result<Made<()>, RunFault>
     }
 }
 
-/// Reads lines to their end that `run_outcomes` wrote with the replies of all calls, of runs of one script, and writes those of
+/// Reads lines to their end that `count_outcomes` wrote with the replies of all calls, of runs of one script, and writes those of
 /// rows that add them up. Two ends are one where their replies and the digits that stand for their trees are.
 pub fn add_outcomes<R: Source, W: Sink>(
     alloc: Global,

@@ -1,14 +1,15 @@
 //! The end of a run: what each call replied, and the tree.
 
-ghost use Rattle.std.specs.Prelude.{◌≡◌, IfOk, map};
+ghost use Rattle.std.specs.Prelude.{◌≡◌, ◌++◌, ◌∷◌, [], List, IfOk, OnOk};
+ghost use Rattle.fs_calls.specs.declared.call.Call.{Call};
+ghost use Rattle.fs_timeline.specs.declared.entry.Entry.{Entry};
 ghost use Rattle.fs_core.specs.CoreValues.{state_of};
-ghost use Rattle.fs_sched_outcomes.specs.Ends.{end_text, reply_at, IsEndOf};
+ghost use Rattle.fs_sched_seen.specs.code.Meetings.{HaveMet, IsOf};
+ghost use Rattle.fs_sched_outcomes.specs.Ends.{end_text, IsEndOf};
 
-use crate::heard::heard_of;
-use crate::places::Place;
 use fs_core::Core;
+use fs_sched_seen::{Meetings, Place, replies_of};
 use fs_script::write_tree;
-use fs_timeline::Entry;
 use std::alloc::{AllocError, Global};
 use std::marker::Model;
 
@@ -43,27 +44,18 @@ impl End {
     }
 }
 
-/// What the calls at these places replied.
-fn replies_of(
+/// The end of a run that left a core so; which calls met in it is noted.
+pub(crate) fn end_of(
     alloc: Global,
     places: &[Place],
-    entries: &[Entry],
-) -> Result<Vec<Vec<u8>>, AllocError>
-    ensures { IfOk result (λ replies. map (λ reply. reply.items) replies.items ≡ map (reply_at entries.now) places.now) }
+    core: &Core,
+    meetings: &mut Meetings,
+) -> Result<End, AllocError>
+    ensures end { IfOk result (IsEndOf places.now (state_of core.now)) }
+    ensures met { (timelines : List (List Entry)) → HaveMet meetings.old timelines → OnOk result (HaveMet meetings.new (timelines ++ (state_of core.now).timeline ∷ [])) }
+    ensures script { (lists : List (List Call)) → IsOf meetings.old lists → IsOf meetings.new lists }
 {
-    let heard = heard_of(alloc, entries)?;
-    let mut replies = Vec::new(alloc);
-    for place in places {
-        replies.push(heard.reply_at(alloc, entries, *place)?)?;
-    }
-    Ok(replies)
-}
-
-/// The end of a run that left a core so.
-pub(crate) fn end_of(alloc: Global, places: &[Place], core: &Core) -> Result<End, AllocError>
-    ensures { IfOk result (IsEndOf places.now (state_of core.now)) }
-{
-    let replies = replies_of(alloc, places, core.timeline())?;
+    let replies = replies_of(alloc, places, core.timeline(), meetings)?;
     let mut tree = Vec::new(alloc);
     write_tree(alloc, core.store(), &mut tree)?;
     Ok(End { replies, tree })

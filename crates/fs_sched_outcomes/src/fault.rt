@@ -1,4 +1,4 @@
-//! Why nothing was written of runs from a tree.
+//! Why nothing was written of drawn runs.
 
 ghost use Rattle.std.specs.Prelude.{◌≡◌};
 ghost use Rattle.fs_sched_outcomes.specs.Faults.{status_of_outcomes_fault};
@@ -7,7 +7,7 @@ use fs_sched::RunFault;
 use fs_sched_start::StartFault;
 use thiserror::Error;
 
-/// Why the ends of runs from a tree were not written. After a failed write a beginning of the lines was written, and after the others
+/// Why the ends of drawn runs were not written. After a failed write a beginning of the lines was written, and after the others
 /// nothing.
 #[derive(Clone, Copy, Debug, PartialEq, Eq, Error)]
 pub enum OutcomesFault {

@@ -2,11 +2,11 @@
 
 ghost use Rattle.std.specs.Prelude.{◌≡◌, ◌++◌, ◌∷◌, [], if◌then◌else◌, IfOk, OnOk, get_or, map};
 ghost use Rattle.std.specs.List.{list_any};
-ghost use Rattle.fs_sched_outcomes.specs.Lines.{added_by, added_line, added_row, added_text, added_words, columns_of, differs, digest_text, is_other, is_shown, label_of, labels_of, numbers_text, part_of, parts_text, reply_in, reply_part, row_by, row_text, rows_text};
+ghost use Rattle.fs_sched_outcomes.specs.Lines.{added_by, added_line, added_row, added_text, added_words, columns_of, differs, digest_text, is_other, is_shown, label_of, labels_of, numbers_text, part_of, parts_text, reply_in, reply_part, row_by, row_text, rows_text, seen_text};
 
 use crate::objects::{push_added_object, push_row_object};
-use crate::places::Place;
 use crate::rows::Row;
+use fs_sched_seen::{Place, Seen, push_seen_object};
 use fs_script::ThreadNames;
 use fs_words::Addition;
 use sha2::{Digest, Sha256};
@@ -258,6 +258,23 @@ pub(crate) fn rows_text(
         push_row_by(alloc, &columns, form, row, &mut text)?;
     }
     Ok(text.kept())
+}
+
+/// How much was seen, where each line is an object of JSON.
+pub(crate) fn push_seen_by(
+    alloc: Global,
+    form: Form,
+    seen: &Seen,
+    text: &mut Addition,
+) -> Result<(), AllocError>
+    ensures ok { OnOk result (text.new.added ≡ text.old.added ++ seen_text form seen.now) }
+    ensures before { text.new.before ≡ text.old.before }
+{
+    if form.json {
+        push_seen_object(alloc, seen, text)
+    } else {
+        text.push(b"")
+    }
 }
 
 /// The words of a row whose tree is known by its digest, up to the line feed.

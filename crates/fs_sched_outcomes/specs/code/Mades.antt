@@ -1,20 +1,21 @@
 -- What is made of the text of a script, before it is written.
-use Rattle.std.specs.Prelude.{ℕ, ◌≡◌, false, List, length, map, Result, IfOk, OnOk, IfErr, IsPermutation}
+use Rattle.std.specs.Prelude.{ℕ, ◌≡◌, ◌++◌, ◌∷◌, [], false, List, length, map, Result, IfOk, OnOk, IfErr, IsPermutation}
+use Rattle.fs_timeline.specs.declared.entry.Entry.{Entry}
 use Rattle.std.specs.List.{sum_by}
 use Rattle.fs_verdict.specs.declared.shell.Made.{Made}
-use Rattle.fs_script.specs.Script.{script_of}
 use Rattle.fs_script.specs.declared.script.Script.{Script}
-use Rattle.fs_sched.specs.Devices.{IsFaultOf}
-use Rattle.fs_sched.specs.declared.origin.Origin.{Origin}
+use Rattle.fs_sched.specs.declared.policy.Campaign.{Campaign}
 use Rattle.fs_words.specs.Headers.{is_too_long}
 use Rattle.fs_verdict.specs.declared.fault.RunFault.{RunFault}
 use Rattle.fs_verdict.specs.declared.fault.RunFault.TheVariants.{Input, Read, Write, OutOfMemory, Full, UnderWay}
 use Rattle.fs_sched_outcomes.specs.Added.{AreAdded}
 use Rattle.fs_sched_outcomes.specs.Ends.{EndValue}
 use Rattle.fs_sched_outcomes.specs.Lines.{added_line, added_text}
-use Rattle.fs_sched_outcomes.specs.Outcomes.{AreDrawn, AreOutcomesOf, EndsOn}
+use Rattle.fs_sched_outcomes.specs.Outcomes.{AreDrawn, AreTimelines, EndsOn, IsTimeline}
 use Rattle.fs_sched_outcomes.specs.Sums.{AddsUp, AreInOrder, times_of}
 use Rattle.fs_sched_outcomes.specs.code.Adding.{with_row}
+use Rattle.fs_sched_seen.specs.code.Meetings.{HaveMet}
+use Rattle.fs_sched_seen.specs.declared.meetings.Meetings.{Meetings}
 use Rattle.fs_sched_outcomes.specs.declared.lines.Form.{Form}
 use Rattle.fs_sched_outcomes.specs.declared.rows.Row.{Row}
 
@@ -23,21 +24,24 @@ abbrev pub single : ℕ → EndValue → Row
 single n end = record { times = 1; seed = n; end = end }
 
 -- the run that is drawn from a number is added to rows
-abbrev pub AddsRun : Origin → Script → ℕ → List Row → List Row → Type 0
-AddsRun at script n old new = (end : EndValue) × EndsOn at script n end × (new ≡ with_row old (single n end))
+abbrev pub AddsRun : Campaign → Script → ℕ → List Row → List Row → Type 0
+AddsRun drawn script n old new = (end : EndValue) × EndsOn drawn script n end × (new ≡ with_row old (single n end))
 
 -- rows add up so many runs
-pub record HasRuns (at : Origin) (script : Script) (seed runs : ℕ) (rows : List Row) : Type 0 where
-  pub drawn : List Row
-  pub are_drawn : AreDrawn at script seed drawn
-  pub count : length drawn ≡ runs
-  pub adds_up : AddsUp drawn rows
+pub record HasRuns (drawn : Campaign) (script : Script) (seed runs : ℕ) (rows : List Row) : Type 0 where
+  pub singles : List Row
+  pub are_drawn : AreDrawn drawn script seed singles
+  pub count : length singles ≡ runs
+  pub adds_up : AddsUp singles rows
   pub total : sum_by times_of rows ≡ runs
 
--- the lines of the ends of drawn runs; or why there are none
-pub record MakesOutcomes (seed runs : ℕ) (form : Form) (input : List ℕ) (result : Result (Made (Unit {0})) RunFault) : Type 0 where
-  pub ok : IfOk result (λ made. AreOutcomesOf seed runs form input made.text.items)
-  pub fault : IfErr result (IsFaultOf (script_of input))
+-- the calls that met in the run that is drawn from a number are noted beside those of these timelines
+abbrev pub NotesRun : Campaign → Script → ℕ → List (List Entry) → Meetings → Type 0
+NotesRun drawn script n timelines m = (es : List Entry) × IsTimeline drawn script n es × HaveMet m (timelines ++ es ∷ [])
+
+-- those that met in so many runs are noted
+abbrev pub NotesRuns : Campaign → Script → ℕ → ℕ → Meetings → Type 0
+NotesRuns drawn script seed runs m = (timelines : List (List Entry)) × AreTimelines drawn script seed timelines × (length timelines ≡ runs) × HaveMet m timelines
 
 -- ---- lines that are added up
 

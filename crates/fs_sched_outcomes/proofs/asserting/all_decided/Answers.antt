@@ -12,6 +12,6 @@ loop-assertion-preserved g c =
     let here : get_or c.args.asserts.now at item ≡ item = cc in
     let more = take_more c.args.asserts.now at item c.loop-assertion-test.true ∙ ap (λ (a : Assertion). take at c.args.asserts.now ++ a ∷ []) here in
     let pushed : c.push_decided.new.all.items ≡ c.loop-assertion.all.items ++ c.in-Ok.one ∷ [] = search rules in
-    subst (λ (ds : List (Option ℕ)). AreDecidedOn c.args.from.now c.args.script.now c.args.seed c.args.runs (take (at + 1) c.args.asserts.now) ds) (sym pushed)
-    (subst (λ (these : List Assertion). AreDecidedOn c.args.from.now c.args.script.now c.args.seed c.args.runs these (c.loop-assertion.all.items ++ c.in-Ok.one ∷ [])) (sym more)
-    (decided_more c.args.from.now c.args.script.now c.args.seed c.args.runs (take at c.args.asserts.now) item c.loop-assertion.all.items c.in-Ok.one c.loop-assertion.invariant c.in-Ok.ensures.decided))
+    subst (λ (ds : List (Option ℕ)). AreDecidedOn c.args.campaign.now c.args.script.now c.args.seed c.args.runs (take (at + 1) c.args.asserts.now) ds) (sym pushed)
+    (subst (λ (these : List Assertion). AreDecidedOn c.args.campaign.now c.args.script.now c.args.seed c.args.runs these (c.loop-assertion.all.items ++ c.in-Ok.one ∷ [])) (sym more)
+    (decided_more c.args.campaign.now c.args.script.now c.args.seed c.args.runs (take at c.args.asserts.now) item c.loop-assertion.all.items c.in-Ok.one c.loop-assertion.invariant c.in-Ok.ensures.decided))

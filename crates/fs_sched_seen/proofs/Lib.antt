@@ -1,0 +1,3 @@
+pub mod ListLemmas
+pub mod HeardLemmas
+pub mod MeetLemmas

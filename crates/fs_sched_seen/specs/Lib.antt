@@ -1,0 +1,4 @@
+pub mod Calls
+pub mod Meetings
+pub mod Seen
+pub mod code

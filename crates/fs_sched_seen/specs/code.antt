@@ -1,0 +1,3 @@
+-- What ties the code to the definitions: of it nothing has to be believed.
+pub mod Heards
+pub mod Meetings
