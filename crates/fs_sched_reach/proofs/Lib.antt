@@ -1,0 +1,4 @@
+mod Adding
+mod Joining
+mod Looking
+mod Seeking

@@ -1,0 +1,5 @@
+-- What ties the code to the definitions: of it nothing has to be believed.
+pub mod Counting
+pub mod Hearing
+pub mod Joined
+pub mod Writing
