@@ -2,7 +2,8 @@
 
 ghost use Rattle.std.specs.Prelude.{◌-◌, ◌<◌, ◌^◌};
 
-use atomfs_answers::{report_picture, status_of_verdict};
+use crate::scripts::count_words;
+use atomfs_answers::{Kept, report_picture, status_of_verdict};
 use atomfs_arguments::{Drawing, Subcommand};
 use fs_draw::{DrawFault, draw_input};
 use fs_draw_page::draw_page;
@@ -13,14 +14,17 @@ use std::io::Write;
 /// Draws a script's run or a journal, as a picture or as a page, and answers the status.
 pub(crate) fn draw<R: Source, W: Sink>(
     alloc: Global,
-    reader: &mut R,
+    reader: &mut Kept<R>,
     writer: &mut W,
     schedule: Schedule,
     drawing: Drawing,
 ) -> Result<u8, DrawFault>
-    requires reads { R.failures reader.old < 2 ^ 64 - 1 }
+    requires reads { R.failures reader.old.inner < 2 ^ 64 - 1 }
     requires writes { W.failures writer.old < 2 ^ 64 - 1 }
 {
+    if let Err(fault) = count_words(alloc, None, reader) {
+        return Err(DrawFault::Run(fault));
+    }
     let drawn = match drawing {
         Drawing::Picture(view) => draw_input(alloc, reader, writer, schedule, view),
         Drawing::Page => draw_page(alloc, reader, writer, schedule),

@@ -8,43 +8,38 @@
 //! The program as a whole, from its arguments to its status, is tested, and so are the words of its messages.
 #![tactic(auto)]
 
-ghost use Rattle.std.specs.Prelude.{◌-◌, ◌<◌, ◌≤◌, ◌^◌};
+ghost use Rattle.std.specs.Prelude.{◌-◌, ◌<◌, ◌^◌};
 ghost use Rattle.atomfs_arguments.specs.Commands.{IsWithin};
-ghost use Rattle.fs_sched.specs.declared.seeding.TheConstants.{RUN_LIMIT, SEED_LIMIT};
-ghost use Rattle.fs_sched_find.specs.declared.finding.TheConstants.{SEARCH_LIMIT};
-ghost use Rattle.fs_sched_outcomes.specs.declared.running.TheConstants.{OUTCOME_LIMIT};
 
 mod drawing;
+mod drawn_runs;
 mod from_tree;
 mod linearizing;
+mod scripts;
 mod terminals;
 
 use crate::drawing::{draw, refused_terminal};
-use crate::from_tree::{find_at, outcomes_at, run_at, seeds_at, shrink_at};
+use crate::drawn_runs::{find, outcomes, seeds};
+use crate::from_tree::{run_at, shrink};
 use crate::linearizing::linearize;
+use crate::scripts::count_words;
 use crate::terminals::{Terminals, excerpts_of, has_no_color, is_in_colours, layout_of};
 use atomfs_answers::{
-    Erasing, Input, Kept, Line, Screen, SharedLine, report, report_asserted, report_check,
-    report_draw, report_fault, report_find, report_schedule, report_shrink, report_trace,
-    report_tree, report_unopened, report_words, status_of_run, status_of_unreadable_args,
-    status_of_usage, status_of_verdict, tell_reading,
+    Erasing, Input, Kept, Line, Screen, SharedLine, report, report_check, report_draw,
+    report_fault, report_schedule, report_trace, report_tree, report_unopened, status_of_run,
+    status_of_unreadable_args, status_of_usage, status_of_verdict, tell_reading,
 };
 use atomfs_arguments::{Asserted, Format, Invocation, Subcommand, parse};
 use atomfs_colours::Painting;
 use fs_explain::{Topic, explanation};
 use fs_sched::{
-    Device, RunFault, Schedule, Silent, Sink, Source, Witness, check_journal, run_script,
-    run_seeds, write_text,
+    Device, RunFault, Schedule, Silent, Sink, Source, check_journal, run_script, write_text,
 };
-use fs_sched_find::{Clauses, FindFault, find_seed, read_what};
-use fs_sched_json::{check_object, find_object, seed_objects};
-use fs_sched_outcomes::{
-    Assertion, Form, add_outcomes, assert_outcomes, read_assertion, run_outcomes,
-};
-use fs_sched_shrink::shrink_script;
+use fs_sched_json::check_object;
+use fs_sched_outcomes::{Form, add_outcomes};
 use fs_sched_threads::{ThreadsFault, run_threads};
 use fs_trace::{ScheduleFault, schedule_script};
-use fs_trace_entries::{Notation, trace_input};
+use fs_trace_entries::{Notation, Traced, trace_input};
 use fs_trace_replay::{Asked, ReplayFault, Replayed, read_question, replay_input};
 use std::alloc::Global;
 use std::convert::AsStr;
@@ -59,14 +54,15 @@ use std::time::Clock;
 /// Runs a script, and answers the status. Without a terminal nobody hears of its events, which costs nothing then.
 fn run<C: Clock, R: Source, W: Sink>(
     alloc: Global,
-    reader: &mut R,
+    reader: &mut Kept<R>,
     writer: &mut W,
     schedule: Schedule,
     line: &mut Line<'_, C>,
 ) -> Result<u8, RunFault>
-    requires reads { R.failures reader.old < 2 ^ 64 - 1 }
+    requires reads { R.failures reader.old.inner < 2 ^ 64 - 1 }
     requires writes { W.failures writer.old < 2 ^ 64 - 1 }
 {
+    count_words(alloc, None, reader)?;
     let outcome = if line.is_on_terminal() {
         run_script(alloc, reader, writer, schedule, line)
     } else {
@@ -86,62 +82,59 @@ fn notation_of(format: Format) -> Notation {
     }
 }
 
-/// Makes drawn runs of a script, and answers the status.
-fn seeds<R: Source, W: Sink, P: Witness>(
+/// Writes what each event of a script's run did, or the entries of a journal.
+fn trace<R: Source, W: Sink>(
     alloc: Global,
-    reader: &mut R,
+    reader: &mut Kept<R>,
     writer: &mut W,
-    seed: u64,
-    runs: u64,
-    format: Format,
-    progress: &mut P,
-) -> Result<u8, RunFault>
-    requires reads { R.failures reader.old < 2 ^ 64 - 1 }
+    schedule: Schedule,
+    every: bool,
+    notation: Notation,
+) -> Result<Traced, RunFault>
+    requires reads { R.failures reader.old.inner < 2 ^ 64 - 1 }
     requires writes { W.failures writer.old < 2 ^ 64 - 1 }
-    requires seed { seed ≤ SEED_LIMIT }
-    requires some { 1 ≤ runs }
-    requires most { runs ≤ RUN_LIMIT }
 {
-    let outcome = match format {
-        Format::Text => run_seeds(alloc, reader, writer, seed, runs, progress),
-        Format::Json => seed_objects(alloc, reader, writer, seed, runs, progress),
-    };
-    match outcome {
-        Ok(lawful) => Ok(status_of_verdict(lawful)),
-        Err(fault) => Err(fault),
-    }
+    count_words(alloc, None, reader)?;
+    trace_input(alloc, reader, writer, schedule, every, notation)
 }
 
 /// Answers what is asked of the trees of a journal, or of a script's run. The words are read before the input.
 fn tree<R: Source, W: Sink>(
     alloc: Global,
-    reader: &mut R,
+    reader: &mut Kept<R>,
     writer: &mut W,
     schedule: Schedule,
     asked: Asked<'_>,
 ) -> Result<Replayed, ReplayFault>
-    requires reads { R.failures reader.old < 2 ^ 64 - 1 }
+    requires reads { R.failures reader.old.inner < 2 ^ 64 - 1 }
     requires writes { W.failures writer.old < 2 ^ 64 - 1 }
 {
-    match read_question(alloc, asked) {
-        Ok(question) => replay_input(alloc, reader, writer, schedule, &question),
-        Err(fault) => Err(fault),
+    let question = match read_question(alloc, asked) {
+        Ok(question) => question,
+        Err(fault) => return Err(fault),
+    };
+    if let Err(fault) = count_words(alloc, None, reader) {
+        return Err(ReplayFault::Run(fault));
     }
+    replay_input(alloc, reader, writer, schedule, &question)
 }
 
 /// Runs the threads of a script on real ones, and answers the status.
 fn threads<T: Threads + Wait + Clock + Sync, R: Source, W: Sink>(
     rt: &T,
     alloc: Global,
-    reader: &mut R,
+    reader: &mut Kept<R>,
     writer: &mut W,
     journal: bool,
     screen: &Screen,
 ) -> Result<u8, ThreadsFault>
-    requires reads { R.failures reader.old < 2 ^ 64 - 1 }
+    requires reads { R.failures reader.old.inner < 2 ^ 64 - 1 }
     requires writes { W.failures writer.old < 2 ^ 64 - 1 }
 {
     let line = SharedLine::new(rt, screen);
+    if let Err(fault) = count_words(alloc, None, reader) {
+        return Err(ThreadsFault::Run(fault));
+    }
     match run_threads(rt, alloc, reader, writer, &line, journal) {
         Ok(lawful) => Ok(status_of_verdict(lawful)),
         Err(fault) => Err(fault),
@@ -151,13 +144,16 @@ fn threads<T: Threads + Wait + Clock + Sync, R: Source, W: Sink>(
 /// Writes a script again with the events of its run, and answers the status.
 fn schedule<R: Source, W: Sink>(
     alloc: Global,
-    reader: &mut R,
+    reader: &mut Kept<R>,
     writer: &mut W,
     schedule: Schedule,
 ) -> Result<u8, ScheduleFault>
-    requires reads { R.failures reader.old < 2 ^ 64 - 1 }
+    requires reads { R.failures reader.old.inner < 2 ^ 64 - 1 }
     requires writes { W.failures writer.old < 2 ^ 64 - 1 }
 {
+    if let Err(fault) = count_words(alloc, None, reader) {
+        return Err(ScheduleFault::Run(fault));
+    }
     match schedule_script(alloc, reader, writer, schedule) {
         Ok(()) => Ok(0),
         Err(fault) => Err(fault),
@@ -180,73 +176,6 @@ fn explain<W: Sink>(
     Ok(0)
 }
 
-/// Counts the ends of drawn runs of a script, and answers the status.
-fn outcomes<R: Source, W: Sink, P: Witness>(
-    alloc: Global,
-    reader: &mut R,
-    writer: &mut W,
-    numbers: (u64, u64),
-    form: Form,
-    progress: &mut P,
-) -> Result<u8, RunFault>
-    requires reads { R.failures reader.old < 2 ^ 64 - 1 }
-    requires writes { W.failures writer.old < 2 ^ 64 - 1 }
-    requires seed { numbers.0 ≤ SEED_LIMIT }
-    requires some { 1 ≤ numbers.1 }
-    requires most { numbers.1 ≤ OUTCOME_LIMIT }
-{
-    let (first, runs) = numbers;
-    match run_outcomes(alloc, reader, writer, first, runs, form, progress) {
-        Ok(()) => Ok(0),
-        Err(fault) => Err(fault),
-    }
-}
-
-/// What is asserted of drawn runs, read from words. Where these say nothing, the answer is the status, and the message is written.
-pub(crate) fn assertions_of<'a, E: Write>(
-    alloc: Global,
-    asserted: &[Asserted<'a>],
-    errors: &mut E,
-) -> Result<Vec<Assertion<'a>>, u8> {
-    let mut asserts = Vec::new(alloc);
-    for said in asserted {
-        let assertion = match read_assertion(alloc, said.quantifier, said.text) {
-            Ok(assertion) => assertion,
-            Err(fault) => return Err(report_words(errors, said.quantifier.word(), fault)),
-        };
-        if asserts.push(assertion).is_err() {
-            return Err(report_fault(errors, RunFault::OutOfMemory));
-        }
-    }
-    Ok(asserts)
-}
-
-/// The same, and decides what is asserted of the runs in words, which are read first; answers the exit status.
-fn asserted_outcomes<C: Clock, R: Source, W: Sink, E: Write>(
-    alloc: Global,
-    asserted: &[Asserted<'_>],
-    numbers: (u64, u64),
-    form: Form,
-    reader: &mut Kept<R>,
-    writer: &mut W,
-    errors: &mut E,
-    line: &mut Line<'_, C>,
-) -> u8
-    requires reads { R.failures reader.old.inner < 2 ^ 64 - 1 }
-    requires writes { W.failures writer.old < 2 ^ 64 - 1 }
-    requires seed { numbers.0 ≤ SEED_LIMIT }
-    requires runs { numbers.1 ≤ OUTCOME_LIMIT }
-{
-    let asserts = match assertions_of(alloc, asserted, errors) {
-        Ok(asserts) => asserts,
-        Err(status) => return status,
-    };
-    let (first, runs) = numbers;
-    let outcome = assert_outcomes(alloc, reader, writer, &asserts, first, runs, form, line);
-    line.erase();
-    report_asserted(errors, &reader.seen, &asserts, first, runs, outcome)
-}
-
 /// Adds up lines of ends, and answers the status.
 fn added_outcomes<R: Source, W: Sink>(
     alloc: Global,
@@ -261,80 +190,6 @@ fn added_outcomes<R: Source, W: Sink>(
         Ok(()) => Ok(0),
         Err(fault) => Err(fault),
     }
-}
-
-/// Searches drawn runs of a script.
-fn find_as<R: Source, W: Sink, P: Witness>(
-    alloc: Global,
-    reader: &mut R,
-    writer: &mut W,
-    what: &[Clauses],
-    numbers: (u64, u64),
-    format: Format,
-    progress: &mut P,
-) -> Result<Option<u64>, FindFault>
-    requires reads { R.failures reader.old < 2 ^ 64 - 1 }
-    requires writes { W.failures writer.old < 2 ^ 64 - 1 }
-    requires seed { numbers.0 ≤ SEED_LIMIT }
-    requires runs { numbers.1 ≤ SEARCH_LIMIT }
-{
-    let (first, runs) = numbers;
-    match format {
-        Format::Text => find_seed(alloc, reader, writer, what, first, runs, progress),
-        Format::Json => find_object(alloc, reader, writer, what, first, runs, progress),
-    }
-}
-
-/// Searches drawn runs of a script for what a text says, which is read first, and answers the exit status.
-fn find<C: Clock, R: Source, W: Sink, E: Write>(
-    alloc: Global,
-    what: &str,
-    numbers: (u64, u64),
-    format: Format,
-    reader: &mut Kept<R>,
-    writer: &mut W,
-    errors: &mut E,
-    line: &mut Line<'_, C>,
-) -> u8
-    requires reads { R.failures reader.old.inner < 2 ^ 64 - 1 }
-    requires writes { W.failures writer.old < 2 ^ 64 - 1 }
-    requires seed { numbers.0 ≤ SEED_LIMIT }
-    requires runs { numbers.1 ≤ SEARCH_LIMIT }
-{
-    let what = match read_what(alloc, what.as_bytes()) {
-        Ok(what) => what,
-        Err(fault) => return report_words(errors, "where", fault),
-    };
-    let outcome = find_as(
-        alloc,
-        reader,
-        writer,
-        what.as_slice(),
-        numbers,
-        format,
-        line,
-    );
-    line.erase();
-    report_find(errors, &reader.seen, numbers.0, numbers.1, outcome)
-}
-
-/// Shrinks a script to what its run needs for what a text says, which is read first, and answers the exit status.
-fn shrink<R: Source, W: Sink, E: Write>(
-    alloc: Global,
-    what: &str,
-    reader: &mut Kept<R>,
-    writer: &mut W,
-    errors: &mut E,
-) -> u8
-    requires reads { R.failures reader.old.inner < 2 ^ 64 - 1 }
-    requires writes { W.failures writer.old < 2 ^ 64 - 1 }
-{
-    let what = match read_what(alloc, what.as_bytes()) {
-        Ok(what) => what,
-        Err(fault) => return report_words(errors, "where", fault),
-    };
-    let outcome = shrink_script(alloc, reader, writer, what.as_slice());
-    report_shrink(errors, &reader.seen, outcome)
 }
 
 /// Does what a subcommand asks for, and what is asserted of its runs, from a reader to a writer, and answers the exit
@@ -359,53 +214,25 @@ fn perform<T: Threads + Wait + Clock + Files + Sync, R: Source, W: Sink, E: Writ
         Subcommand::Run(order, Some(file)) => {
             return run_at(rt, alloc, file, *order, reader, writer, errors, &mut line);
         }
-        Subcommand::Seeds(first, runs, format, None) => {
-            seeds(alloc, reader, writer, *first, *runs, *format, &mut line)
-        }
-        Subcommand::Seeds(first, runs, format, Some(file)) => {
-            let numbers = (*first, *runs);
-            return seeds_at(
-                rt, alloc, file, numbers, *format, reader, writer, errors, &mut line,
+        Subcommand::Seeds(drawn, format) => {
+            return seeds(
+                rt, alloc, *drawn, *format, reader, writer, errors, &mut line,
             );
         }
-        Subcommand::Outcomes(first, runs, form, Some(file)) => {
-            let numbers = (*first, *runs);
-            return outcomes_at(
-                rt, alloc, file, asserted, numbers, *form, reader, writer, errors, &mut line,
+        Subcommand::Outcomes(drawn, form) => {
+            return outcomes(
+                rt, alloc, *drawn, asserted, *form, reader, writer, errors, &mut line,
             );
-        }
-        Subcommand::Outcomes(first, runs, form, None) if !asserted.is_empty() => {
-            let numbers = (*first, *runs);
-            return asserted_outcomes(
-                alloc, asserted, numbers, *form, reader, writer, errors, &mut line,
-            );
-        }
-        Subcommand::Outcomes(first, runs, form, None) => {
-            outcomes(alloc, reader, writer, (*first, *runs), *form, &mut line)
         }
         Subcommand::AddedOutcomes(form) => added_outcomes(alloc, reader, writer, *form),
-        Subcommand::Find(what, first, runs, format, Some(file)) => {
-            let numbers = (*first, *runs);
-            return find_at(
-                rt, alloc, file, what, numbers, *format, reader, writer, errors, &mut line,
-            );
-        }
-        Subcommand::Find(what, first, runs, format, None) => {
+        Subcommand::Find(what, drawn, format) => {
             return find(
-                alloc,
-                what,
-                (*first, *runs),
-                *format,
-                reader,
-                writer,
-                errors,
-                &mut line,
+                rt, alloc, what, *drawn, *format, reader, writer, errors, &mut line,
             );
         }
-        Subcommand::Shrink(what, Some(file)) => {
-            return shrink_at(rt, alloc, file, what, reader, writer, errors);
+        Subcommand::Shrink(what, file) => {
+            return shrink(rt, alloc, what, *file, reader, writer, errors);
         }
-        Subcommand::Shrink(what, None) => return shrink(alloc, what, reader, writer, errors),
         Subcommand::Tree(order, asked) => {
             let outcome = tree(alloc, reader, writer, *order, *asked);
             return report_tree(errors, &reader.seen, outcome);
@@ -427,7 +254,7 @@ fn perform<T: Threads + Wait + Clock + Files + Sync, R: Source, W: Sink, E: Writ
         Subcommand::Explain(first, second) => explain(alloc, writer, *first, *second),
         Subcommand::Trace(order, every, format) => {
             let notation = notation_of(*format);
-            let outcome = trace_input(alloc, reader, writer, *order, *every, notation);
+            let outcome = trace(alloc, reader, writer, *order, *every, notation);
             return report_trace(errors, &reader.seen, outcome);
         }
         Subcommand::Draw(order, drawing) => {

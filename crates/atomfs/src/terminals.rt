@@ -26,10 +26,10 @@ pub(crate) fn has_no_color(rt: &HostRuntime) -> bool {
 fn is_in_words(command: &Subcommand<'_>) -> bool {
     match command {
         Subcommand::Run(_, _) | Subcommand::Threads(_) | Subcommand::Linearize(_, _, _) => true,
-        Subcommand::Seeds(_, _, format, _)
+        Subcommand::Seeds(_, format)
         | Subcommand::Check(format)
         | Subcommand::Trace(_, _, format) => *format == Format::Text,
-        Subcommand::Outcomes(_, _, form, _) | Subcommand::AddedOutcomes(form) => !form.json,
+        Subcommand::Outcomes(_, form) | Subcommand::AddedOutcomes(form) => !form.json,
         _ => false,
     }
 }
@@ -46,7 +46,7 @@ pub(crate) fn layout_of(asked: &Invocation<'_>, terminals: Terminals) -> Layout 
     }
     match asked.command {
         Subcommand::Trace(_, _, Format::Text) => Layout::Columns,
-        Subcommand::Outcomes(_, _, form, _) | Subcommand::AddedOutcomes(form) if !form.json => {
+        Subcommand::Outcomes(_, form) | Subcommand::AddedOutcomes(form) if !form.json => {
             Layout::Table
         }
         _ => Layout::Plain,

@@ -1,7 +1,6 @@
 -- The exit statuses.
 use Rattle.std.specs.List.{list_any}
 use Rattle.std.specs.Prelude.{ℕ, List, Bool, ◌==◌, if◌then◌else◌, Result, Ok, Err, Option, Some, None}
-use Rattle.std.specs.Global.{Vec}
 use Rattle.fs_linearize_dialects.specs.declared.fault.DialectFault.{DialectFault}
 use Rattle.fs_linearize_dialects.specs.declared.fault.TableFault.{TableFault}
 use Rattle.fs_linearize_dialects.specs.declared.fault.TableFault.TheVariants as table
@@ -26,12 +25,12 @@ use Rattle.fs_draw.specs.Faults.{status_of_draw}
 use Rattle.fs_draw.specs.declared.fault.DrawFault.{DrawFault}
 use Rattle.fs_sched_start.specs.Faults.{status_of_start}
 use Rattle.fs_sched_start.specs.declared.fault.StartFault.{StartFault}
-use Rattle.fs_sched_find.specs.Faults.{status_of_find, status_of_search}
-use Rattle.fs_sched_find.specs.declared.fault.SearchFault.{SearchFault}
+use Rattle.fs_sched_find.specs.Faults.{status_of_find}
 use Rattle.fs_sched_shrink.specs.Faults.{status_of_shrink}
 use Rattle.fs_sched_shrink.specs.declared.fault.ShrinkFault.{ShrinkFault}
 use Rattle.fs_sched_outcomes.specs.Faults.{status_of_outcomes_fault}
 use Rattle.fs_sched_outcomes.specs.declared.fault.OutcomesFault.{OutcomesFault}
+use Rattle.fs_sched_outcomes.specs.declared.asserting.Counted.{Counted}
 use Rattle.fs_sched_find.specs.declared.fault.FindFault.{FindFault}
 use Rattle.fs_sched_find.specs.declared.reading.WhatFault.{WhatFault}
 use Rattle.fs_sched_find.specs.declared.reading.WhatFault.TheVariants as words
@@ -127,32 +126,19 @@ abbrev pub status_of_found : Result (Option ℕ) FindFault → ℕ
 status_of_found (Ok found) = status_of_seed found
 status_of_found (Err fault) = status_of_find fault
 
-abbrev pub status_of_found_from : Result (Option ℕ) SearchFault → ℕ
-status_of_found_from (Ok found) = status_of_seed found
-status_of_found_from (Err fault) = status_of_search fault
-
 -- success where all assertions hold, by the first runs that decide them, else 1
-abbrev pub status_of_asserted : List Assertion → Result (Vec (Option ℕ)) FindFault → ℕ
-status_of_asserted asserts (Ok decided) = status_of_verdict (all_hold asserts decided.items)
-status_of_asserted asserts (Err fault) = status_of_find fault
-
--- the same of runs from a tree
-abbrev pub status_of_asserted_from : List Assertion → Result (Vec (Option ℕ)) OutcomesFault → ℕ
-status_of_asserted_from asserts (Ok decided) = status_of_verdict (all_hold asserts decided.items)
-status_of_asserted_from asserts (Err fault) = status_of_outcomes_fault fault
+abbrev pub status_of_counted : List Assertion → Result Counted OutcomesFault → ℕ
+status_of_counted asserts (Ok counted) = status_of_verdict (all_hold asserts counted.decided.items)
+status_of_counted asserts (Err fault) = status_of_outcomes_fault fault
 
 -- success where a script was shrunk, 1 where its run has not what is said
 abbrev pub status_of_left : Option Shrunk → ℕ
 status_of_left (Some shrunk) = 0
 status_of_left None = 1
 
-abbrev pub status_of_shrunk : Result (Option Shrunk) FindFault → ℕ
+abbrev pub status_of_shrunk : Result (Option Shrunk) ShrinkFault → ℕ
 status_of_shrunk (Ok shrunk) = status_of_left shrunk
-status_of_shrunk (Err fault) = status_of_find fault
-
-abbrev pub status_of_shrunk_from : Result (Option Shrunk) ShrinkFault → ℕ
-status_of_shrunk_from (Ok shrunk) = status_of_left shrunk
-status_of_shrunk_from (Err fault) = status_of_shrink fault
+status_of_shrunk (Err fault) = status_of_shrink fault
 
 -- words that say nothing of a run are a usage error
 abbrev pub status_of_words : WhatFault → ℕ

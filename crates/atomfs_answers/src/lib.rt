@@ -17,10 +17,9 @@ pub use input::Input;
 pub use progress::{Erasing, Line, Screen, SharedLine};
 pub use seen::{Excerpts, Kept, Seen};
 pub use status::{
-    report, report_asserted, report_asserted_from, report_check, report_draw, report_fault,
-    report_file, report_find, report_find_from, report_from, report_learned, report_linearize,
-    report_many, report_minimized, report_picture, report_schedule, report_shrink,
-    report_shrink_from, report_table, report_trace, report_tree, report_unopened, report_unwritten,
-    report_words, status_of_run, status_of_unreadable_args, status_of_usage, status_of_verdict,
-    tell_reading,
+    report, report_check, report_draw, report_fault, report_file, report_find, report_from,
+    report_learned, report_linearize, report_many, report_minimized, report_outcomes,
+    report_picture, report_schedule, report_shrink, report_table, report_trace, report_tree,
+    report_unopened, report_unwritten, report_words, status_of_run, status_of_unreadable_args,
+    status_of_usage, status_of_verdict, tell_reading,
 };

@@ -1,10 +1,9 @@
 //! What was read of a text, and what a message shows of it beside its fault.
 
-ghost use Rattle.std.specs.Prelude.{◌≡◌, ◌+◌, ◌<◌, ◌≤◌, length, if◌then◌else◌};
+ghost use Rattle.std.specs.Prelude.{◌≡◌, ◌+◌, ◌-◌, ◌<◌, ◌≤◌, ◌^◌, length, if◌then◌else◌, None, OnOk};
 
 use fs_draw::DrawFault;
 use fs_sched::{Failed, RunFault, Source};
-use fs_sched_find::FindFault;
 use fs_sched_start::StartFault;
 use fs_sched_threads::ThreadsFault;
 use fs_trace::ScheduleFault;
@@ -14,6 +13,7 @@ use fs_words::lines::cut_line;
 use fs_words::words::is_word;
 use fs_words::{FaultKind, ScriptFault};
 use std::alloc::{AllocError, Global};
+use std::mem;
 
 /// The most columns of a line that are shown.
 const WIDTH: usize = 80;
@@ -37,6 +37,12 @@ const PLAIN: &[u8] = b"\x1b[0m";
 /// So many bytes of a text are kept, from its first on: to keep more would cost those whose texts have no fault.
 const SEEN_BYTES: usize = 65_536;
 
+/// So many bytes are read ahead, at most.
+const AHEAD_BYTES: usize = 16_384;
+
+/// So many of them at once.
+const PIECE_BYTES: usize = 4_096;
+
 /// How the line of an entry at fault is shown, with the lines before it.
 #[derive(Clone, Copy, Debug, PartialEq, Eq)]
 pub enum Excerpts {
@@ -52,7 +58,8 @@ pub enum Excerpts {
 #[derive(Drop)]
 pub struct Seen {
     alloc: Global,
-    text: Vec<u8>,
+    /// What is kept: the text from its first byte on.
+    pub text: Vec<u8>,
     is_full: bool,
     /// How entries at fault are shown.
     pub excerpts: Excerpts,
@@ -69,21 +76,33 @@ impl Seen {
         }
     }
 
-    /// Keeps what was read next. Where there is no memory for it, or no room, nothing more is kept.
-    fn keep(&mut self, piece: &[u8]) {
-        if self.is_full {
-            return;
+    /// Makes all its room at once, if nothing is kept yet: a text that grows beside it would be moved again and again. The answer is
+    /// whether there is memory.
+    fn makes_room(&mut self) -> bool {
+        if self.is_full || !self.text.is_empty() {
+            return !self.is_full;
         }
-        // All its room at once: a text that grows beside it would be moved again and again.
-        if self.text.is_empty() {
-            match Vec::with_capacity(self.alloc, SEEN_BYTES) {
-                Ok(text) => self.text = text,
-                Err(_) => {
-                    self.is_full = true;
-                    return;
-                }
+        match Vec::with_capacity(self.alloc, SEEN_BYTES) {
+            Ok(text) => {
+                self.text = text;
+                true
+            }
+            Err(_) => {
+                self.is_full = true;
+                false
             }
         }
+    }
+
+    /// Keeps what was read next. Where there is no memory for it, or no room, nothing more is kept.
+    fn keep(&mut self, piece: &[u8]) {
+        if self.makes_room() {
+            self.push(piece);
+        }
+    }
+
+    /// Keeps what was read next, as far as it has room: `makes_room` was asked.
+    fn push(&mut self, piece: &[u8]) {
         let room = SEEN_BYTES.saturating_sub(self.text.len());
         let fits = piece.len().min(room);
         self.is_full = self.text.extend_from_slice(&piece[..fits]).is_err() || fits < piece.len();
@@ -283,13 +302,37 @@ fn nature_of(text: &[u8], is_tree: bool) -> Option<&'static [u8]> {
     None
 }
 
-/// A source, and what was read of it.
+/// What is given before a source goes on: what is kept of it from a place on, or another text from a place on.
+#[derive(Drop)]
+enum Ahead {
+    Nothing,
+    Kept(usize),
+    Made(Vec<u8>, usize),
+}
+
+/// Copies a text from a place on to the front of a buffer, and answers how many bytes.
+fn give(text: &[u8], at: usize, buffer: &mut [u8]) -> usize
+    ensures within { result ≤ length buffer.new }
+    ensures same { length buffer.new ≡ length buffer.old }
+{
+    if at >= text.len() {
+        return 0;
+    }
+    let count = buffer.len().min(text.len() - at);
+    buffer[..count].copy_from_slice(&text[at..at + count]);
+    count
+}
+
+/// A source, and what was read of it. What it gives is not known to proofs.
 #[derive(Drop)]
 pub struct Kept<R> {
     /// The source.
     pub inner: R,
     /// What was read of it.
     pub seen: Seen,
+    ahead: Ahead,
+    /// It came to its end, and is not asked again: a terminal would want a second end.
+    is_over: bool,
 }
 
 impl<R> Kept<R> {
@@ -300,16 +343,87 @@ impl<R> Kept<R> {
         Kept {
             inner,
             seen: Seen::new(alloc),
+            ahead: Ahead::Nothing,
+            is_over: false,
         }
+    }
+
+    /// Gives another text in the place of the one that was read ahead. What was read is shown all the same.
+    pub fn give_instead(&mut self, text: Vec<u8>)
+        ensures { self.new.inner ≡ self.old.inner }
+    {
+        self.ahead = Ahead::Made(text, 0);
+    }
+
+    /// Gives what was read ahead, and answers how many bytes.
+    fn give_ahead(&mut self, buffer: &mut [u8]) -> usize
+        ensures inner { self.new.inner ≡ self.old.inner }
+        ensures within { result ≤ length buffer.new }
+        ensures same { length buffer.new ≡ length buffer.old }
+    {
+        let (count, ahead) = match mem::replace(&mut self.ahead, Ahead::Nothing) {
+            Ahead::Nothing => return 0,
+            Ahead::Kept(at) => {
+                let count = give(self.seen.text.as_slice(), at, buffer);
+                (count, Ahead::Kept(at.saturating_add(count)))
+            }
+            Ahead::Made(text, at) => {
+                let count = give(text.as_slice(), at, buffer);
+                (count, Ahead::Made(text, at.saturating_add(count)))
+            }
+        };
+        if count > 0 {
+            self.ahead = ahead;
+        }
+        count
+    }
+}
+
+impl<R: Source> Kept<R> {
+    /// Reads ahead, and answers whether that is the whole text. It is kept, and given all the same.
+    pub fn read_ahead(&mut self) -> Result<bool, Failed>
+        requires { R.failures self.old.inner < 2 ^ 64 - 1 }
+        ensures { OnOk result (R.failures self.new.inner ≡ R.failures self.old.inner) }
+    {
+        if !self.seen.makes_room() {
+            return Ok(false);
+        }
+        self.ahead = Ahead::Kept(0);
+        let mut piece = [0u8; PIECE_BYTES];
+        // Each time at least one byte comes.
+        for _ in 0..AHEAD_BYTES {
+            let room = AHEAD_BYTES.saturating_sub(self.seen.text.len());
+            let most = room.min(PIECE_BYTES);
+            if most == 0 {
+                return Ok(false);
+            }
+            let count = self.inner.read(&mut piece[..most])?;
+            if count == 0 {
+                self.is_over = true;
+                return Ok(true);
+            }
+            self.seen.push(&piece[..count]);
+            if self.seen.is_full {
+                return Err(Failed);
+            }
+        }
+        Ok(false)
     }
 }
 
 impl<R: Source> Source for Kept<R> {
-    ghost remaining = { λ kept. R.remaining kept.inner };
+    ghost remaining = { λ kept. None };
 
     ghost failures = { λ kept. R.failures kept.inner };
 
     fn read(&mut self, buffer: &mut [u8]) -> Result<usize, Failed> {
+        if buffer.is_empty() {
+            return Ok(0);
+        }
+        let given = self.give_ahead(buffer);
+        if given > 0 || self.is_over {
+            return Ok(given);
+        }
         match self.inner.read(buffer) {
             Ok(count) => {
                 self.seen.keep(&buffer[..count]);
@@ -358,15 +472,6 @@ impl Faulty for ScheduleFault {
         match self {
             ScheduleFault::Run(fault) => fault.of_text(),
             ScheduleFault::TooManyEvents | ScheduleFault::TooLong => None,
-        }
-    }
-}
-
-impl Faulty for FindFault {
-    fn of_text(&self) -> Option<ScriptFault> {
-        match self {
-            FindFault::Schedule(fault) => fault.of_text(),
-            FindFault::NoCall => None,
         }
     }
 }

@@ -3,7 +3,7 @@
 ghost use Rattle.std.specs.Prelude.{◌≡◌, ◌≢◌, ◌⊎◌};
 ghost use Rattle.std.specs.IoError.{error_kind};
 ghost use Rattle.clap.specs.Values.{kind_of};
-ghost use Rattle.atomfs_answers.specs.Statuses.{has_status, status_of, status_of_asserted, status_of_asserted_from, status_of_checked, status_of_drawn, status_of_found, status_of_found_from, status_of_learned, status_of_learning, status_of_linearized, status_of_many, status_of_minimized, status_of_outcome, status_of_outcomes, status_of_replayed, status_of_run, status_of_scheduled, status_of_seed, status_of_left, status_of_shrunk, status_of_shrunk_from, status_of_started, status_of_table, status_of_traced, status_of_verdict, status_of_words};
+ghost use Rattle.atomfs_answers.specs.Statuses.{has_status, status_of, status_of_checked, status_of_counted, status_of_drawn, status_of_found, status_of_learned, status_of_learning, status_of_linearized, status_of_many, status_of_minimized, status_of_outcome, status_of_outcomes, status_of_replayed, status_of_run, status_of_scheduled, status_of_shrunk, status_of_started, status_of_table, status_of_traced, status_of_verdict, status_of_words};
 ghost use Rattle.fs_sched.specs.Faults.{status_of_fault};
 
 use crate::input::words_of;
@@ -15,14 +15,17 @@ use fs_linearize_dialects::{DialectFault, TableFault};
 use fs_linearize_minimal::Minimized;
 use fs_linearize_text::{Histories, Learned, Learning, Linearized, Outcome};
 use fs_sched::{Checked, RunEnd, RunFault};
-use fs_sched_find::{FindFault, SearchFault, WhatFault};
-use fs_sched_outcomes::{Assertion, OutcomesFault, Quantifier, all_hold};
+use fs_sched_find::{FindFault, WhatFault};
+use fs_sched_outcomes::{Assertion, Counted, OutcomesFault, Quantifier, all_hold};
+use fs_sched_seen::push_seen;
 use fs_sched_shrink::{ShrinkFault, Shrunk, TRIAL_LIMIT};
 use fs_sched_start::StartFault;
 use fs_sched_threads::ThreadsFault;
 use fs_trace::ScheduleFault;
 use fs_trace_entries::Traced;
 use fs_trace_replay::{ReplayFault, Replayed};
+use fs_words::Addition;
+use std::alloc::Global;
 use std::fmt::Display;
 use std::io::{self, ErrorKind as IoErrorKind, Write};
 
@@ -270,8 +273,8 @@ pub fn report_learned<E: Write>(
     status_of_learning(told.outcome)
 }
 
-/// Writes the message of a fault of runs from the tree in a file. A fault of the tree comes after the name of the file, of which this
-/// was read.
+/// Writes the message of a fault of runs, from the tree in a file if there is one. A fault of the tree comes after the name of the
+/// file, of which this was read.
 fn tell_start<E: Write>(errors: &mut E, seen: &Seen, file: &str, tree: &Seen, fault: &StartFault) {
     match fault {
         StartFault::Tree(of_tree) => {
@@ -357,30 +360,13 @@ pub fn report_schedule<E: Write>(
     fault.status()
 }
 
-/// Writes what a search of so many runs from a number on found, and answers the status.
-fn tell_found<E: Write>(errors: &mut E, seed: u64, runs: u64, found: Option<u64>) -> u8
-    ensures { result ≡ status_of_seed found }
-{
-    match found {
-        Some(found) => {
-            let _ = writeln!(errors, "atomfs: seed {found}");
-            0
-        }
-        None => {
-            let _ = writeln!(
-                errors,
-                "atomfs: no run of {runs} from seed {seed} on has it"
-            );
-            1
-        }
-    }
-}
-
 /// The status of a search of so many runs from a number on, or of its fault, whose message is written. What was found
 /// is reported too.
 pub fn report_find<E: Write>(
     errors: &mut E,
     seen: &Seen,
+    file: &str,
+    tree: &Seen,
     seed: u64,
     runs: u64,
     outcome: Result<Option<u64>, FindFault>,
@@ -388,31 +374,21 @@ pub fn report_find<E: Write>(
     ensures { result ≡ status_of_found outcome }
 {
     let fault = match outcome {
-        Ok(found) => return tell_found(errors, seed, runs, found),
-        Err(fault) => fault,
-    };
-    tell_fault(errors, seen, &fault);
-    fault.status()
-}
-
-/// The same of runs from the tree in a file.
-pub fn report_find_from<E: Write>(
-    errors: &mut E,
-    seen: &Seen,
-    file: &str,
-    tree: &Seen,
-    seed: u64,
-    runs: u64,
-    outcome: Result<Option<u64>, SearchFault>,
-) -> u8
-    ensures { result ≡ status_of_found_from outcome }
-{
-    let fault = match outcome {
-        Ok(found) => return tell_found(errors, seed, runs, found),
+        Ok(Some(found)) => {
+            let _ = writeln!(errors, "atomfs: seed {found}");
+            return 0;
+        }
+        Ok(None) => {
+            let _ = writeln!(
+                errors,
+                "atomfs: no run of {runs} from seed {seed} on has it"
+            );
+            return 1;
+        }
         Err(fault) => fault,
     };
     match &fault {
-        SearchFault::Start(start) => tell_start(errors, seen, file, tree, start),
+        FindFault::Start(start) => tell_start(errors, seen, file, tree, start),
         _ => {
             let _ = writeln!(errors, "atomfs: {fault}");
         }
@@ -455,31 +431,19 @@ fn tell_all_broken<E: Write>(
     }
 }
 
-/// The status of assertions on so many runs from a number on, by the first runs that decide them, or of their fault,
-/// whose message is written. It is success if all hold. What the runs break is reported too.
-pub fn report_asserted<E: Write>(
-    errors: &mut E,
-    seen: &Seen,
-    asserts: &[Assertion<'_>],
-    seed: u64,
-    runs: u64,
-    outcome: Result<Vec<Option<u64>>, FindFault>,
-) -> u8
-    ensures { result ≡ status_of_asserted asserts.now outcome }
-{
-    let fault = match outcome {
-        Ok(decided) => {
-            tell_all_broken(errors, asserts, &decided, seed, runs);
-            return status_of_verdict(all_hold(asserts, &decided));
-        }
-        Err(fault) => fault,
-    };
-    tell_fault(errors, seen, &fault);
-    fault.status()
+/// Writes how much was seen in runs.
+fn tell_seen<E: Write>(alloc: Global, errors: &mut E, counted: &Counted) {
+    let mut words = Addition::new(Vec::new(alloc));
+    if push_seen(&counted.seen, &mut words).is_ok() {
+        tell(errors, words.kept().as_slice());
+    }
 }
 
-/// The same of assertions on runs from the tree in a file.
-pub fn report_asserted_from<E: Write>(
+/// The status of assertions on so many runs from a number on, by the first runs that decide them, or of the fault of these
+/// runs, whose message is written. It is success if all hold. What the runs break is reported too, and unless they are
+/// written as objects how much was seen.
+pub fn report_outcomes<E: Write>(
+    alloc: Global,
     errors: &mut E,
     seen: &Seen,
     file: &str,
@@ -487,14 +451,18 @@ pub fn report_asserted_from<E: Write>(
     asserts: &[Assertion<'_>],
     seed: u64,
     runs: u64,
-    outcome: Result<Vec<Option<u64>>, OutcomesFault>,
+    json: bool,
+    outcome: Result<Counted, OutcomesFault>,
 ) -> u8
-    ensures { result ≡ status_of_asserted_from asserts.now outcome }
+    ensures { result ≡ status_of_counted asserts.now outcome }
 {
     let fault = match outcome {
-        Ok(decided) => {
-            tell_all_broken(errors, asserts, &decided, seed, runs);
-            return status_of_verdict(all_hold(asserts, &decided));
+        Ok(counted) => {
+            tell_all_broken(errors, asserts, &counted.decided, seed, runs);
+            if !json {
+                tell_seen(alloc, errors, &counted);
+            }
+            return status_of_verdict(all_hold(asserts, &counted.decided));
         }
         Err(fault) => fault,
     };
@@ -524,50 +492,25 @@ fn tell_shrunk<E: Write>(errors: &mut E, shrunk: &Shrunk) {
     }
 }
 
-/// Writes what is left of a script, if its run has what is said, and answers the status.
-fn tell_left<E: Write>(errors: &mut E, shrunk: Option<Shrunk>) -> u8
-    ensures { result ≡ status_of_left shrunk }
-{
-    match shrunk {
-        Some(shrunk) => {
-            tell_shrunk(errors, &shrunk);
-            0
-        }
-        None => {
-            let _ = writeln!(errors, "atomfs: its run does not have it");
-            1
-        }
-    }
-}
-
 /// The status of shrinking a script, or of its fault, whose message is written. What is left is reported too.
 pub fn report_shrink<E: Write>(
-    errors: &mut E,
-    seen: &Seen,
-    outcome: Result<Option<Shrunk>, FindFault>,
-) -> u8
-    ensures { result ≡ status_of_shrunk outcome }
-{
-    let fault = match outcome {
-        Ok(shrunk) => return tell_left(errors, shrunk),
-        Err(fault) => fault,
-    };
-    tell_fault(errors, seen, &fault);
-    fault.status()
-}
-
-/// The same of runs from the tree in a file.
-pub fn report_shrink_from<E: Write>(
     errors: &mut E,
     seen: &Seen,
     file: &str,
     tree: &Seen,
     outcome: Result<Option<Shrunk>, ShrinkFault>,
 ) -> u8
-    ensures { result ≡ status_of_shrunk_from outcome }
+    ensures { result ≡ status_of_shrunk outcome }
 {
     let fault = match outcome {
-        Ok(shrunk) => return tell_left(errors, shrunk),
+        Ok(Some(shrunk)) => {
+            tell_shrunk(errors, &shrunk);
+            return 0;
+        }
+        Ok(None) => {
+            let _ = writeln!(errors, "atomfs: its run does not have it");
+            return 1;
+        }
         Err(fault) => fault,
     };
     match &fault {

@@ -6,6 +6,8 @@ use Rattle.std.specs.Str.Parse.{IsNumeral, digits_value, without_leading_plus}
 use Rattle.clap.specs.Matches.{matched_of, one_text, raw_values}
 use Rattle.clap.specs.declared.parser.matches.Found.{Found}
 use Rattle.clap.specs.declared.parser.matches.MatchedArg.{MatchedArg}
+use Rattle.fs_sched.specs.declared.policy.Policy.{Policy}
+use Rattle.fs_sched.specs.declared.policy.Policy.TheVariants as policy
 use Rattle.fs_sched.specs.declared.seeding.TheConstants.{SEED_LIMIT, RUN_LIMIT}
 use Rattle.fs_sched_outcomes.specs.declared.running.TheConstants.{OUTCOME_LIMIT}
 use Rattle.fs_sched_outcomes.specs.declared.lines.Form.{Form}
@@ -22,6 +24,7 @@ use Rattle.atomfs_arguments.specs.declared.subcommand.Color.{Color}
 use Rattle.atomfs_arguments.specs.declared.subcommand.Color.TheVariants as color
 use Rattle.atomfs_arguments.specs.declared.subcommand.Drawing.{Drawing}
 use Rattle.atomfs_arguments.specs.declared.subcommand.Drawing.TheVariants.{Picture, Page}
+use Rattle.atomfs_arguments.specs.declared.subcommand.Drawn.{Drawn}
 use Rattle.atomfs_arguments.specs.declared.subcommand.Format.{Format}
 use Rattle.atomfs_arguments.specs.declared.subcommand.Format.TheVariants.{Text, Json}
 use Rattle.atomfs_arguments.specs.declared.subcommand.Subcommand.{Subcommand}
@@ -30,10 +33,10 @@ use Rattle.atomfs_arguments.specs.declared.subcommand.Subcommand.TheVariants.{Ru
 -- the word by which a subcommand is asked for
 abbrev pub name_of : Subcommand → List ℕ
 name_of (Run schedule from) = codes "run"
-name_of (Seeds seed runs format from) = codes "seeds"
-name_of (Outcomes seed runs form from) = codes "outcomes"
+name_of (Seeds drawn format) = codes "seeds"
+name_of (Outcomes drawn form) = codes "outcomes"
 name_of (AddedOutcomes form) = codes "outcomes"
-name_of (Find what seed runs format from) = codes "find"
+name_of (Find what drawn format) = codes "find"
 name_of (Shrink what from) = codes "shrink"
 name_of (Tree schedule asked) = codes "tree"
 name_of (Threads journal) = codes "threads"
@@ -44,13 +47,17 @@ name_of (Draw schedule drawing) = codes "draw"
 name_of (Schedule schedule) = codes "schedule"
 name_of (Explain first second) = codes "explain"
 
--- the numbers of drawn runs, and the limit of a search, are within their ranges
+-- the numbers of drawn runs are within their ranges
+abbrev pub AreWithin : ℕ → Drawn → Type 0
+AreWithin most drawn = (drawn.seed ≤ SEED_LIMIT) × (1 ≤ drawn.runs) × (drawn.runs ≤ most)
+
+-- and so is the limit of a search
 abbrev pub IsWithin : Subcommand → Type 0
 IsWithin (Run schedule from) = Unit {0}
-IsWithin (Seeds seed runs format from) = (seed ≤ SEED_LIMIT) × (1 ≤ runs) × (runs ≤ RUN_LIMIT)
-IsWithin (Outcomes seed runs form from) = (seed ≤ SEED_LIMIT) × (1 ≤ runs) × (runs ≤ OUTCOME_LIMIT)
+IsWithin (Seeds drawn format) = AreWithin RUN_LIMIT drawn
+IsWithin (Outcomes drawn form) = AreWithin OUTCOME_LIMIT drawn
 IsWithin (AddedOutcomes form) = Unit {0}
-IsWithin (Find what seed runs format from) = (seed ≤ SEED_LIMIT) × (1 ≤ runs) × (runs ≤ SEARCH_LIMIT)
+IsWithin (Find what drawn format) = AreWithin SEARCH_LIMIT drawn
 IsWithin (Shrink what from) = Unit {0}
 IsWithin (Tree schedule asked) = Unit {0}
 IsWithin (Threads journal) = Unit {0}
@@ -83,6 +90,11 @@ pub record AreNumbersOf (found : Found) (most seed runs : ℕ) : Type 0 where
   pub greatest : seed ≤ SEED_LIMIT
   pub some : 1 ≤ runs
   pub fewest : runs ≤ most
+
+-- how schedules are drawn: by priorities of the depth that is given, or with each thread as likely as the others
+abbrev pub IsPolicyOf : Found → Policy → Type 0
+IsPolicyOf found policy.Uniform = one_text found (codes "priorities") ≡ None
+IsPolicyOf found (policy.Priorities depth) = IsNumberOf found (codes "priorities") depth
 
 -- whether a flag is given
 abbrev pub IsFlagOf : Found → List ℕ → Bool → Type 0
@@ -139,32 +151,43 @@ said_by found quantifier = map (λ text. (quantifier, text)) (values_in (matched
 abbrev pub all_said : Found → List (Quantifier × List ℕ)
 all_said found = (said_by found Never ++ said_by found Always) ++ said_by found Sometimes
 
--- drawn runs from this number on, so many, written so, from the tree in the file that is named
-abbrev pub IsSeeds : Option (List ℕ) → ℕ → ℕ → Format → Subcommand → Type 0
-IsSeeds file first most wanted (Seeds seed runs format from) = (option_map (λ (word : Bor (List ℕ)). word.now) from ≡ file) × (seed ≡ first) × (runs ≡ most) × (format ≡ wanted)
-IsSeeds file first most wanted other = ⊥
+-- drawn runs from this number on, so many, by this policy, from the tree in the file that is named
+pub record AreDrawnSo (file : Option (List ℕ)) (first most : ℕ) (wanted : Policy) (drawn : Drawn) : Type 0 where
+  pub from : option_map (λ (word : Bor (List ℕ)). word.now) drawn.from ≡ file
+  pub seed : drawn.seed ≡ first
+  pub runs : drawn.runs ≡ most
+  pub by : drawn.by ≡ wanted
 
-abbrev pub DrawsRuns : Option (List ℕ) → ℕ → ℕ → Format → Option Subcommand → Type 0
-DrawsRuns file first most wanted (Some subcommand) = IsSeeds file first most wanted subcommand
-DrawsRuns file first most wanted None = ⊥
+abbrev pub IfDrawn : Option (List ℕ) → ℕ → ℕ → Policy → Option Drawn → Type 0
+IfDrawn file first most by (Some drawn) = AreDrawnSo file first most by drawn
+IfDrawn file first most by None = ⊥
 
--- the same of the ends of drawn runs
-abbrev pub IsOutcomes : Option (List ℕ) → ℕ → ℕ → Form → Subcommand → Type 0
-IsOutcomes file first most wanted (Outcomes seed runs form from) = (option_map (λ (word : Bor (List ℕ)). word.now) from ≡ file) × (seed ≡ first) × (runs ≡ most) × (form ≡ wanted)
-IsOutcomes file first most wanted other = ⊥
+-- they are checked, and written so
+abbrev pub IsSeeds : Option (List ℕ) → ℕ → ℕ → Policy → Format → Subcommand → Type 0
+IsSeeds file first most by wanted (Seeds drawn format) = AreDrawnSo file first most by drawn × (format ≡ wanted)
+IsSeeds file first most by wanted other = ⊥
 
-abbrev pub CountsEnds : Option (List ℕ) → ℕ → ℕ → Form → Option Subcommand → Type 0
-CountsEnds file first most wanted (Some subcommand) = IsOutcomes file first most wanted subcommand
-CountsEnds file first most wanted None = ⊥
+abbrev pub DrawsRuns : Option (List ℕ) → ℕ → ℕ → Policy → Format → Option Subcommand → Type 0
+DrawsRuns file first most by wanted (Some subcommand) = IsSeeds file first most by wanted subcommand
+DrawsRuns file first most by wanted None = ⊥
 
--- a search of this, from this number on, in so many runs, written so, from the tree in the file that is named
-abbrev pub IsSearch : Option (List ℕ) → List ℕ → ℕ → ℕ → Format → Subcommand → Type 0
-IsSearch file text first most wanted (Find what seed runs format from) = (option_map (λ (word : Bor (List ℕ)). word.now) from ≡ file) × (what.now ≡ text) × (seed ≡ first) × (runs ≡ most) × (format ≡ wanted)
-IsSearch file text first most wanted other = ⊥
+-- their ends are counted, and written so
+abbrev pub IsOutcomes : Option (List ℕ) → ℕ → ℕ → Policy → Form → Subcommand → Type 0
+IsOutcomes file first most by wanted (Outcomes drawn form) = AreDrawnSo file first most by drawn × (form ≡ wanted)
+IsOutcomes file first most by wanted other = ⊥
 
-abbrev pub SearchesFor : Option (List ℕ) → List ℕ → ℕ → ℕ → Format → Option Subcommand → Type 0
-SearchesFor file text first most wanted (Some subcommand) = IsSearch file text first most wanted subcommand
-SearchesFor file text first most wanted None = ⊥
+abbrev pub CountsEnds : Option (List ℕ) → ℕ → ℕ → Policy → Form → Option Subcommand → Type 0
+CountsEnds file first most by wanted (Some subcommand) = IsOutcomes file first most by wanted subcommand
+CountsEnds file first most by wanted None = ⊥
+
+-- they are searched for this, and what is found is written so
+abbrev pub IsSearch : Option (List ℕ) → List ℕ → ℕ → ℕ → Policy → Format → Subcommand → Type 0
+IsSearch file text first most by wanted (Find what drawn format) = (what.now ≡ text) × AreDrawnSo file first most by drawn × (format ≡ wanted)
+IsSearch file text first most by wanted other = ⊥
+
+abbrev pub SearchesFor : Option (List ℕ) → List ℕ → ℕ → ℕ → Policy → Format → Option Subcommand → Type 0
+SearchesFor file text first most by wanted (Some subcommand) = IsSearch file text first most by wanted subcommand
+SearchesFor file text first most by wanted None = ⊥
 
 -- a script is to shrink to what has this, from the tree in the file that is named
 abbrev pub IsShrink : Option (List ℕ) → List ℕ → Subcommand → Type 0

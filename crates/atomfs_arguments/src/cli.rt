@@ -47,6 +47,7 @@ fn needed<'a>(argument: Arg<'a>, need: &Need) -> Result<Arg<'a>, Error> {
         Need::Never => Ok(argument),
         Need::Always => Ok(argument.required(true)),
         Need::Unless(other) => Ok(argument.required_unless_present(other)?),
+        Need::With(other) => Ok(argument.requires_arg(other)?),
     }
 }
 

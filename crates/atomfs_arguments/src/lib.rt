@@ -14,5 +14,5 @@ mod texts;
 
 pub use cli::parse;
 pub use subcommand::{
-    Asserted, Color, Drawing, Format, Histories, Invocation, Recorded, Subcommand,
+    Asserted, Color, Drawing, Drawn, Format, Histories, Invocation, Recorded, Subcommand,
 };

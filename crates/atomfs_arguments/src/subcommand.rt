@@ -3,14 +3,15 @@
 ghost use Rattle.std.specs.Prelude.{◌≡◌, ◌≤◌, ◌++◌, ℕ, Bool, List, map, is_some, option_map, true, false, Some, None, IfSome, IfOk, OnOk, codes};
 ghost use Rattle.std.specs.Option.{ForSome};
 ghost use Rattle.clap.specs.Matches.{first_value, found_of, one_text, subcommand_name_of};
-ghost use Rattle.atomfs_arguments.specs.Commands.{AreNumbersOf, AsksBefore, AsksWho, IsFlagOf, IsFormOf, IsFormatOf, IsNumberOf, IsSomePicture, IsViewOf, IsWithin, SearchesFor, ShrinksFor, TracesSo, CountsEnds, DrawsRuns, all_said, color_named, is_on, name_of, said, said_by};
+ghost use Rattle.fs_sched.specs.Schedules.{schedule_by};
+ghost use Rattle.atomfs_arguments.specs.Commands.{AreNumbersOf, AreWithin, AsksBefore, AsksWho, IfDrawn, IsPolicyOf, IsFlagOf, IsFormOf, IsFormatOf, IsNumberOf, IsSomePicture, IsViewOf, IsWithin, SearchesFor, ShrinksFor, TracesSo, CountsEnds, DrawsRuns, all_said, color_named, is_on, name_of, said, said_by};
 ghost use Rattle.fs_explain.specs.Topics.{word_of};
 
 use clap::ArgMatches;
 use fs_draw::View;
 use fs_explain::{Topic, topic_of};
 use fs_linearize_text::CONFIGURATION_LIMIT;
-use fs_sched::{RUN_LIMIT, SEED_LIMIT, Schedule};
+use fs_sched::{Policy, RUN_LIMIT, SEED_LIMIT, Schedule};
 use fs_sched_find::SEARCH_LIMIT;
 use fs_sched_outcomes::{Form, OUTCOME_LIMIT, Quantifier};
 use fs_trace_replay::Asked;
@@ -79,14 +80,14 @@ pub enum Drawing {
 pub enum Subcommand<'a> {
     /// A run of a script by a schedule; and the file that has the tree at which it starts, where that is more than the root.
     Run(Schedule, Option<&'a str>),
-    /// Runs of a script that are drawn from a number, the next one, and so on: the number, and how many; and the file with their tree.
-    Seeds(u64, u64, Format, Option<&'a str>),
+    /// Runs of a script that are drawn.
+    Seeds(Drawn<'a>, Format),
     /// The ends of such runs, how often each came, and what is written of them.
-    Outcomes(u64, u64, Form, Option<&'a str>),
+    Outcomes(Drawn<'a>, Form),
     /// The same, added up from lines of pieces.
     AddedOutcomes(Form),
     /// The first of so many such runs that has what is said.
-    Find(&'a str, u64, u64, Format, Option<&'a str>),
+    Find(&'a str, Drawn<'a>, Format),
     /// A script without what its run does not need for what is said.
     Shrink(&'a str, Option<&'a str>),
     /// What is asked of the trees of a journal, or of a script's run by a schedule.
@@ -105,6 +106,16 @@ pub enum Subcommand<'a> {
     Schedule(Schedule),
     /// What one word of a message means, or two.
     Explain(Topic, Option<Topic>),
+}
+
+/// Runs that are drawn from a number, the next one, and so on: the number, how many, how, and the file that has the tree at which each
+/// starts, where that is more than the root.
+#[derive(Clone, Copy, Debug, PartialEq, Eq)]
+pub struct Drawn<'a> {
+    pub seed: u64,
+    pub runs: u64,
+    pub by: Policy,
+    pub from: Option<&'a str>,
 }
 
 /// How histories are read, where those are kept that are not lawful, and how what is found of one is drawn.
@@ -188,17 +199,28 @@ fn format_of<'a>(matches: &ArgMatches<'a>) -> Format
     }
 }
 
+/// How schedules are drawn.
+fn policy_of<'a>(matches: &ArgMatches<'a>) -> Policy
+    ensures { (by : Policy) → IsPolicyOf (found_of matches.now) by → result ≡ by }
+{
+    match number_given(matches, "priorities") {
+        Some(depth) => Policy::Priorities(depth),
+        None => Policy::Uniform,
+    }
+}
+
 /// The schedule of a run.
 fn schedule_of<'a>(matches: &ArgMatches<'a>) -> Schedule
     ensures robin { one_text (found_of matches.now) (codes "robin") ≡ Some (codes "true") → result ≡ Schedule.RoundRobin }
     ensures given { one_text (found_of matches.now) (codes "robin") ≡ Some (codes "false") → one_text (found_of matches.now) (codes "seed") ≡ None → result ≡ Schedule.Given }
-    ensures seeded { (n : ℕ) → one_text (found_of matches.now) (codes "robin") ≡ Some (codes "false") → IsNumberOf (found_of matches.now) (codes "seed") n → result ≡ Schedule.Seeded n }
+    ensures drawn { (n : ℕ) (by : Policy) → one_text (found_of matches.now) (codes "robin") ≡ Some (codes "false") → IsNumberOf (found_of matches.now) (codes "seed") n
+        → IsPolicyOf (found_of matches.now) by → result ≡ schedule_by by n }
 {
     if matches.get_flag("robin") {
         return Schedule::RoundRobin;
     }
     match number_given(matches, "seed") {
-        Some(seed) => Schedule::Seeded(seed),
+        Some(seed) => policy_of(matches).schedule(seed),
         None => Schedule::Given,
     }
 }
@@ -228,19 +250,33 @@ fn numbers_of<'a>(matches: &ArgMatches<'a>, most: u64) -> Option<(u64, u64)>
     )
 }
 
+/// Drawn runs, at most so many.
+fn drawn_runs_of<'a>(matches: &ArgMatches<'a>, most: u64) -> Option<Drawn<'a>>
+    ensures within { IfSome result (AreWithin most) }
+    ensures some { (seed runs : ℕ) (by : Policy) → AreNumbersOf (found_of matches.now) most seed runs → IsPolicyOf (found_of matches.now) by
+        → IfDrawn (first_value (found_of matches.now) (codes "from")) seed runs by result }
+{
+    match numbers_of(matches, most) {
+        Some((seed, runs)) => Some(Drawn {
+            seed,
+            runs,
+            by: policy_of(matches),
+            from: matches.get_str("from"),
+        }),
+        None => None,
+    }
+}
+
 /// Drawn runs whose journals are checked.
 fn seeds_of<'a>(matches: &ArgMatches<'a>) -> Option<Subcommand<'a>>
     ensures within { ForSome result IsWithin }
     ensures name { IfSome result (λ command. name_of command ≡ codes "seeds") }
-    ensures some { (seed runs : ℕ) (format : Format) → AreNumbersOf (found_of matches.now) RUN_LIMIT seed runs → IsFormatOf (found_of matches.now) format
-        → DrawsRuns (first_value (found_of matches.now) (codes "from")) seed runs format result }
+    ensures some { (seed runs : ℕ) (by : Policy) (format : Format) → AreNumbersOf (found_of matches.now) RUN_LIMIT seed runs → IsPolicyOf (found_of matches.now) by → IsFormatOf (found_of matches.now) format
+        → DrawsRuns (first_value (found_of matches.now) (codes "from")) seed runs by format result }
 {
     let format = format_of(matches);
-    match numbers_of(matches, RUN_LIMIT) {
-        Some(numbers) => {
-            let from = matches.get_str("from");
-            Some(Subcommand::Seeds(numbers.0, numbers.1, format, from))
-        }
+    match drawn_runs_of(matches, RUN_LIMIT) {
+        Some(drawn) => Some(Subcommand::Seeds(drawn, format)),
         None => None,
     }
 }
@@ -268,19 +304,16 @@ fn outcomes_of<'a>(matches: &ArgMatches<'a>) -> Option<Subcommand<'a>>
     ensures name { IfSome result (λ command. name_of command ≡ codes "outcomes") }
     ensures added { (form : Form) → IsFlagOf (found_of matches.now) (codes "add") true → IsFormOf (found_of matches.now) form
         → result ≡ Some (Subcommand.AddedOutcomes form) }
-    ensures some { (seed runs : ℕ) (form : Form) → IsFlagOf (found_of matches.now) (codes "add") false → IsFormOf (found_of matches.now) form
-        → AreNumbersOf (found_of matches.now) OUTCOME_LIMIT seed runs
-        → CountsEnds (first_value (found_of matches.now) (codes "from")) seed runs form result }
+    ensures some { (seed runs : ℕ) (by : Policy) (form : Form) → IsFlagOf (found_of matches.now) (codes "add") false → IsFormOf (found_of matches.now) form
+        → AreNumbersOf (found_of matches.now) OUTCOME_LIMIT seed runs → IsPolicyOf (found_of matches.now) by
+        → CountsEnds (first_value (found_of matches.now) (codes "from")) seed runs by form result }
 {
     let form = form_of(matches);
     if flag_given(matches, "add") {
         return Some(Subcommand::AddedOutcomes(form));
     }
-    match numbers_of(matches, OUTCOME_LIMIT) {
-        Some(numbers) => {
-            let from = matches.get_str("from");
-            Some(Subcommand::Outcomes(numbers.0, numbers.1, form, from))
-        }
+    match drawn_runs_of(matches, OUTCOME_LIMIT) {
+        Some(drawn) => Some(Subcommand::Outcomes(drawn, form)),
         None => None,
     }
 }
@@ -328,18 +361,16 @@ fn asserted_of<'a>(alloc: Global, matches: &ArgMatches<'a>) -> Result<Vec<Assert
 fn find_of<'a>(matches: &ArgMatches<'a>) -> Option<Subcommand<'a>>
     ensures within { ForSome result IsWithin }
     ensures name { IfSome result (λ command. name_of command ≡ codes "find") }
-    ensures some { (text : List ℕ) (seed runs : ℕ) (format : Format) → first_value (found_of matches.now) (codes "where") ≡ Some text
-        → AreNumbersOf (found_of matches.now) SEARCH_LIMIT seed runs → IsFormatOf (found_of matches.now) format → SearchesFor (first_value (found_of matches.now) (codes "from")) text seed runs format result }
+    ensures some { (text : List ℕ) (seed runs : ℕ) (by : Policy) (format : Format) → first_value (found_of matches.now) (codes "where") ≡ Some text
+        → AreNumbersOf (found_of matches.now) SEARCH_LIMIT seed runs → IsPolicyOf (found_of matches.now) by → IsFormatOf (found_of matches.now) format
+        → SearchesFor (first_value (found_of matches.now) (codes "from")) text seed runs by format result }
 {
     let format = format_of(matches);
     let Some(what) = matches.get_str("where") else {
         return None;
     };
-    match numbers_of(matches, SEARCH_LIMIT) {
-        Some(numbers) => {
-            let from = matches.get_str("from");
-            Some(Subcommand::Find(what, numbers.0, numbers.1, format, from))
-        }
+    match drawn_runs_of(matches, SEARCH_LIMIT) {
+        Some(drawn) => Some(Subcommand::Find(what, drawn, format)),
         None => None,
     }
 }

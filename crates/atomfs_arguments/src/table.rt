@@ -2,7 +2,7 @@
 
 use crate::texts::*;
 use fs_linearize_text::CONFIGURATION_LIMIT;
-use fs_sched::{RUN_LIMIT, SEED_LIMIT};
+use fs_sched::{DEPTH_LIMIT, RUN_LIMIT, SEED_LIMIT};
 use fs_sched_find::SEARCH_LIMIT;
 use fs_sched_outcomes::OUTCOME_LIMIT;
 
@@ -34,6 +34,8 @@ pub(crate) enum Need {
     Always,
     /// It may be left out where this other one is used.
     Unless(&'static str),
+    /// It may be left out, and where it is used this other one has to be there.
+    With(&'static str),
 }
 
 /// An argument of a command.
@@ -93,12 +95,28 @@ const SEED: Argument = Argument {
     help: "Random threads with the seed N, 0 to 18446744073709551615, as `atomfs seeds` draws them",
 };
 
+const PRIORITIES: Argument = Argument {
+    name: "priorities",
+    form: Form::Number("DEPTH", 1, DEPTH_LIMIT),
+    need: Need::With("seed"),
+    conflicts: &["robin"],
+    help: "In place of random threads, few turns by random priorities, for races of that depth: 2 is a lost update; 1 to 1000",
+};
+
 const FIRST_SEED: Argument = Argument {
     name: "seed",
     form: Form::Number("N", 0, SEED_LIMIT),
     need: Need::Always,
     conflicts: &[],
     help: "The seed of the first run, 0 to 9223372036854775807",
+};
+
+const BY_PRIORITIES: Argument = Argument {
+    name: "priorities",
+    form: Form::Number("DEPTH", 1, DEPTH_LIMIT),
+    need: Need::Never,
+    conflicts: &[],
+    help: "In place of random threads, few turns by random priorities, for races of that depth: 2 is a lost update; 1 to 1000",
 };
 
 const JSON: Argument = Argument {
@@ -162,7 +180,7 @@ const RUN: Row = Row {
     about: "Runs a script and writes its journal, its tree and its counts",
     usage: "atomfs run [OPTIONS] [FILE]",
     statuses: RUN_STATUSES,
-    arguments: &[ROBIN, SEED, FROM, COLOR, FILE],
+    arguments: &[ROBIN, SEED, PRIORITIES, FROM, COLOR, FILE],
 };
 
 const SEEDS: Row = Row {
@@ -179,6 +197,7 @@ const SEEDS: Row = Row {
             conflicts: &[],
             help: "How many runs, with the seeds N, N + 1, and so on, 1 to 10000",
         },
+        BY_PRIORITIES,
         FROM,
         JSON,
         COLOR,
@@ -205,6 +224,13 @@ const OUTCOMES: Row = Row {
             need: Need::Unless("add"),
             conflicts: &["add"],
             help: "How many runs, with the seeds N, N + 1, and so on, 1 to 1000000",
+        },
+        Argument {
+            name: "priorities",
+            form: Form::Number("DEPTH", 1, DEPTH_LIMIT),
+            need: Need::Never,
+            conflicts: &["add"],
+            help: "In place of random threads, few turns by random priorities, for races of that depth: 2 is a lost update; 1 to 1000",
         },
         Argument {
             name: "from",
@@ -258,6 +284,7 @@ const FIND: Row = Row {
             conflicts: &[],
             help: "At most so many runs, with the seeds N, N + 1, and so on, 1 to 1000000",
         },
+        BY_PRIORITIES,
         FROM,
         JSON,
         FILE,
@@ -301,6 +328,7 @@ const TREE: Row = Row {
         },
         ROBIN,
         SEED,
+        PRIORITIES,
         FILE,
     ],
 };
@@ -413,6 +441,7 @@ const TRACE: Row = Row {
     arguments: &[
         ROBIN,
         SEED,
+        PRIORITIES,
         Argument {
             name: "every",
             form: Form::Flag,
@@ -440,6 +469,7 @@ const DRAW: Row = Row {
     arguments: &[
         ROBIN,
         SEED,
+        PRIORITIES,
         Argument {
             name: "around",
             form: Form::Number("NUMBER", 0, u64::MAX),
@@ -475,19 +505,9 @@ const DRAW: Row = Row {
 const SCHEDULE: Row = Row {
     name: "schedule",
     about: "Runs a script and writes it again, with the events of the run as its schedule",
-    usage: "atomfs schedule <--robin|--seed <N>> [FILE]",
+    usage: "atomfs schedule [OPTIONS] [FILE]",
     statuses: SCHEDULE_STATUSES,
-    arguments: &[
-        ROBIN,
-        Argument {
-            name: "seed",
-            form: Form::Number("N", 0, u64::MAX),
-            need: Need::Unless("robin"),
-            conflicts: &["robin"],
-            help: "Random threads with the seed N, 0 to 18446744073709551615, as `atomfs seeds` draws them",
-        },
-        FILE,
-    ],
+    arguments: &[ROBIN, SEED, PRIORITIES, FILE],
 };
 
 const EXPLAIN: Row = Row {

@@ -169,6 +169,7 @@ Examples:
 pub(crate) const SCHEDULE_STATUSES: &str = "\
 Exit status:
   0  success: a run of what is written has the text of this run
+  1  a checkpoint found pending calls
   2  usage error
   3  the input is no script: `atomfs explain` says what to write instead
   4  out of memory, no node number left, or more events than a script gives

@@ -170,7 +170,7 @@ because             a script without events has an empty schedule
 ";
 
 const BAD_WORD: &str = "\
-BadWord: a schedule word of another form, of an unknown thread, with a number outside 1 to 1,000,000, or after `finish` or `!drawn` (scripts only)
+BadWord: a schedule word of another form, of an unknown thread, with a number outside 1 to 1,000,000, of a call to which its thread does not come, or after `finish` or `!drawn` (scripts only)
 
 In a script, for    u*9 finish
 write               t*9 finish
