@@ -54,8 +54,9 @@ PAGES = ROOT / "CHANGELOG.md", *NOW
 # Those that have a page beside their program.
 RACES = [path.stem for path in sorted((ROOT / "examples" / "races").glob("*.md")) if path.stem != "README"]
 HELPED = DATA / "worked" / "runs" / "helped_mkdir"
-# What `atomfs schedule --robin` writes of it.
-BY_ROBIN = b"atomfs 1\nthread m\nmkdir /a\nmkdir /a/d\nmkdir /a/d/x\nthread r\nrename /a /b\nschedule\nm r m r m r m r m r m r m r m*8\n"
+# What `atomfs schedule` writes of it, and what with `--robin`.
+BLOCKS = b"atomfs 1\nthread m\nmkdir /a\nmkdir /a/d\nmkdir /a/d/x\nthread r\nrename /a /b\nschedule\n"
+BY_ITSELF, BY_ROBIN = BLOCKS + b"m*18 r*6 m*3\n", BLOCKS + b"m r m r m r m r m r m r m r m*8\n"
 # README is read in seven minutes, the first tutorial in five, the page of a crate in one.
 MOST_WORDS, MOST_OF_A_CRATE = {README: 1_450, DOCS / "FIRST-RACE.md": 1_000}, 140
 
@@ -724,7 +725,9 @@ class Commands(Page):
             "check": b"lawful\n",
             "linearize": text.partition(b"tree\n")[0],
             "trace": (DATA / "traces" / "helped_mkdir.trace").read_bytes(),
+            "schedule": BY_ITSELF,
             "schedule --robin": BY_ROBIN,
+            "schedule --seed 7": run(HELPED.with_suffix(".script").read_bytes(), "schedule", "--seed", "7").output,
             "draw": (DOCS / "helped_mkdir.svg").read_bytes(),
             "explain TrailingSlash": explanations()["TrailingSlash"],
             "--version": f"atomfs {version}\n".encode(),
@@ -752,11 +755,15 @@ class Commands(Page):
         )
 
     def look(self, words: typing.Any) -> None:
-        told = {"find": b"atomfs: seed 7\n", "shrink": b"atomfs: calls 1, words 0, where not helped m#1\n"}
+        told = {
+            "find": b"atomfs: seed 7\n",
+            "shrink": b"atomfs: calls 1, words 0, where not helped m#1\n",
+        }
         said = told.get(words.split(" ")[0], b"")
+        came = run(example_for(words), *shlex.split(words))
         self.same(
             f"atomfs {words}",
-            run(example_for(words), *shlex.split(words)),
+            harness.without_seen(came) if words.startswith("outcomes ") else came,
             Outcome(0, self.due().get(words, b"no such command"), said),
         )
 
@@ -1059,11 +1066,12 @@ class EachCommand(Page):
                 "the scripts that are not there", [word for word in words if not (ROOT / word).exists()], []
             )
         outcome = run((ROOT / given).read_bytes() if given not in self.INPUTS else example_for(*words), *words)
-        # A check tells what is wrong beside the verdict, a search the seed that it found, and `shrink` and `--core` what is left.
+        # A check tells what is wrong beside the verdict, a search the seed that it found, `outcomes` how much was seen, and `shrink` and `--core` what is
+        # left.
         is_told = (
             self.IN_PART.match(outcome.message)
             or outcome.output.startswith(b"fault ")
-            or words[0] in ("find", "shrink")
+            or words[0] in ("find", "outcomes", "shrink")
             or "--core" in words
         )
         message = b"" if is_told else outcome.message
@@ -1374,6 +1382,7 @@ def limits() -> dict[str, list[int]]:
         "fs_sched/src/seeding.rt",
     )
     of_searches = (
+        "fs_sched_seen/src/meetings.rt",
         "fs_sched_outcomes/src/running.rt",
         "fs_sched_find/src/finding.rt",
         "fs_sched_shrink/src/limits.rt",

@@ -168,6 +168,21 @@ def spawned(words: typing.Sequence[str], given: bytes | None, **other: typing.An
     return Outcome(done.returncode, done.stdout or b"", done.stderr or b"")
 
 
+# How `outcomes` says on standard error how much was seen.
+SEEN = re.compile(
+    rb"^atomfs: ([\d,]+) runs?, ([\d,]+) outcomes?, ([\d,]+) new in the last ([\d,]+) runs?(?:; ([\d,]+) of ([\d,]+) pairs? of calls met)?\n",
+    re.M,
+)
+
+
+def without_seen(came: Outcome) -> Outcome:
+    """An outcome of `outcomes` without the line that says how much was seen, if that is there once. tests/seen.py looks at its numbers."""
+    message, lines = SEEN.subn(b"", came.message)
+    return came._replace(
+        message=message if lines == 1 else came.message + b"(it says %d times how much was seen)\n" % lines
+    )
+
+
 # Where this is another function, it answers in the place of the program; and where nothing is compared, rows only ask.
 answer: typing.Callable[..., Outcome] = spawned
 compares = True

@@ -218,10 +218,10 @@ class Completions(Made):
         """They have short names too."""
         self.same("the options of the program", options(PROGRAM), ["-h", "--help", "-V", "--version"])
         ends = "--color", "-h", "--help"
-        self.same("those of run", options("run"), ["--robin", "--seed", "--from", *ends])
-        self.same("those of seeds", options("seeds"), ["--seed", "--runs", "--from", "--json", *ends])
+        self.same("those of run", options("run"), ["--robin", "--seed", "--priorities", "--from", *ends])
+        self.same("those of seeds", options("seeds"), ["--seed", "--runs", "--priorities", "--from", "--json", *ends])
         lines, asserted = ("--trees", "--all", "--add"), ("--never", "--always", "--sometimes")
-        due = ["--seed", "--runs", "--from", *lines, *asserted, "--json", *ends]
+        due = ["--seed", "--runs", "--priorities", "--from", *lines, *asserted, "--json", *ends]
         self.same("those of outcomes", options("outcomes"), due)
 
     def by_bash(self, typed: typing.Iterable[tuple[str, ...]]) -> list[list[str]]:

@@ -9,7 +9,7 @@ import unittest
 
 import drawn
 from documents import constants
-from harness import Case, Outcome, asks_of_answers, rows_of, run, with_line
+from harness import Case, Outcome, asks_of_answers, rows_of, run, with_line, without_seen
 
 SCRIPTS, RUNS = 200, 12
 # Scripts of the third limits.
@@ -70,7 +70,9 @@ def lines(rows: typing.Sequence[Row], every: bool = False, trees: bool = False) 
 
 
 def asked(script: bytes, seed: int, runs: int, *words: str) -> Outcome:
-    return run(script, "outcomes", "--seed", str(seed), "--runs", str(runs), *words)
+    """The outcome without the line that says how much was seen; as objects it is the last one."""
+    came = run(script, "outcomes", "--seed", str(seed), "--runs", str(runs), *words)
+    return came if "--json" in words else without_seen(came)
 
 
 def rows_of_runs(script: bytes, seed: int, runs: int, *start: str) -> list[Row]:

@@ -394,8 +394,8 @@ class Layouts(Case):
         shares = [re.findall(rb"\((.*?)\)", line) for line in on_one_terminal(most, "outcomes", "--add")[1]]
         self.assertEqual(shares, [[b"99.9%"], [b"0.1%"], [b"0.1%"], []])
         one = on_one_terminal(MEET, "outcomes", "--seed", "1", "--runs", "7", "--trees")[1]
-        bare = run(MEET, "outcomes", "--seed", "1", "--runs", "7", "--trees").output
-        self.assertEqual(spaced(re.sub(rb"\(\S*%\)", b"", b"\n".join(one))), bare)
+        bare = run(MEET, "outcomes", "--seed", "1", "--runs", "7", "--trees")
+        self.assertEqual(spaced(re.sub(rb"\(\S*%\)", b"", b"\n".join(one))), bare.output + bare.message)
         self.assertRegex(one[0], rb"^\d+ +\(\d+\.\d%\)  seed +\d+  tree [0-9a-f]{16}")
 
     def test_examples_of_the_page(self) -> None:

@@ -53,6 +53,8 @@ COMMANDS = (
     ("draw", "--html"),
     ("schedule", "--robin"),
 )
+# How much is seen in three runs of one call.
+ONE_END = b'{"runs":3,"outcomes":1,"new":1,"lately":3,"met":0,"pairs":0}\n'
 # What `atomfs explain` knows. tests/documents.py looks at each.
 KINDS = match_in(r"possible values: (.*)\]", (HELP / "explain").read_text())[1].split(", ")
 NOT_UTF_8 = Outcome(2, b"", b"atomfs: an argument is not UTF-8\n")
@@ -138,12 +140,12 @@ class Words(Case):
                 (
                     "outcomes --seed 7 --runs 3 --json --all",
                     of(ONE_CALL),
-                    Outcome(0, b'{"times":3,"seed":7,"digest":"%s","replies":{"t#1":"ok"}}\n' % DIGEST),
+                    Outcome(0, b'{"times":3,"seed":7,"digest":"%s","replies":{"t#1":"ok"}}\n%s' % (DIGEST, ONE_END)),
                 ),
                 (
                     "outcomes --seed 7 --runs 3 --never 'helped t#1' --always 'tree dir /' --json --all",
                     of(ONE_CALL),
-                    Outcome(0, b'{"times":3,"seed":7,"digest":"%s","replies":{"t#1":"ok"}}\n' % DIGEST),
+                    Outcome(0, b'{"times":3,"seed":7,"digest":"%s","replies":{"t#1":"ok"}}\n%s' % (DIGEST, ONE_END)),
                 ),
                 (
                     "find --where 'helped t#1' --seed 7 --runs 3 --json",
@@ -638,12 +640,11 @@ class Words(Case):
                         "draw [OPTIONS] [FILE] > PICTURE",
                     ),
                 ),
-                ("schedule", misused(f"{missing}\n  --seed <N>", "schedule <--robin|--seed <N>> [FILE]")),
                 (
                     "schedule --robin --seed 1",
                     misused(
                         "the argument '--robin' cannot be used with '--seed <N>'",
-                        "schedule <--robin|--seed <N>> [FILE]",
+                        "schedule [OPTIONS] [FILE]",
                     ),
                 ),
                 ("explain", misused(f"{missing}\n  <KIND>", of_explain)),
@@ -689,8 +690,9 @@ class Words(Case):
         line = (HELP / name).read_text().splitlines()[-1]
         words, given = self.pasted(line)
         came = run(given, *shlex.split(words)[1:])
-        # A search tells the seed that it found.
-        self.same(line, (came.status, re.sub(rb"^atomfs: (seed \d+|calls .*)\n$", b"", came.message)), (0, b""))
+        # A search tells the seed that it found, and `outcomes` how much was seen.
+        message = re.sub(rb"^atomfs: (seed \d+|calls .*)\n$", b"", harness.SEEN.sub(b"", came.message))
+        self.same(line, (came.status, message), (0, b""))
 
     def test_examples_of_the_help(self) -> None:
         self.each(((path.name, path.name) for path in sorted(HELP.iterdir())), self.do_the_example)

@@ -871,8 +871,11 @@ class Schedules(Case):
             came = run(script, "schedule", "--robin")
             self.same(f"a script by version {version} of {len(script)} bytes", (came.status, came.message), wanted)
 
-    def test_a_schedule_is_named(self) -> None:
-        self.same("atomfs schedule", run(CUT, "schedule").status, 2)
+    def test_its_own_schedule(self) -> None:
+        """Without `--robin` or `--seed` the script is written with the events of its own schedule."""
+        came = run(CUT, "schedule")
+        self.same(CUT, came.status, 0)
+        self.same(CUT, run(came.output, "run"), run(CUT, "run"))
 
 
 if __name__ == "__main__":
