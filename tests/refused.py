@@ -98,9 +98,11 @@ class Program(Preloaded):
         plain = harness.without_seen(whole) if words[0] == "outcomes" else whole
         self.same(f"atomfs {command} < {name}", plain, Outcome(0, output))
         # A thread that has no memory to start is no worker. Some growths can be done without: those for a smaller block, for the paths that are kept, and for
-        # the room that a run makes at once.
+        # the room that a run makes at once; and without memory for it, nothing is said of how much was seen.
         told = [NO_MEMORY, NO_WORKER] if threads else [NO_MEMORY]
-        self.tell(f"growths of atomfs {command} < {name}", self.without("REFUSE", growths, words, given), told, whole)
+        self.tell(
+            f"growths of atomfs {command} < {name}", self.without("REFUSE", growths, words, given), told, whole, plain
+        )
 
     def test_growths(self) -> None:
         rows = (

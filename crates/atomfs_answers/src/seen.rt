@@ -76,10 +76,10 @@ impl Seen {
         }
     }
 
-    /// Makes all its room at once, if nothing is kept yet: a text that grows beside it would be moved again and again. The answer is
+    /// Makes all its room at once, if it has none yet: a text that grows beside it would be moved again and again. The answer is
     /// whether there is memory.
     fn makes_room(&mut self) -> bool {
-        if self.is_full || !self.text.is_empty() {
+        if self.is_full || self.text.capacity() > 0 {
             return !self.is_full;
         }
         match Vec::with_capacity(self.alloc, SEEN_BYTES) {
@@ -96,13 +96,9 @@ impl Seen {
 
     /// Keeps what was read next. Where there is no memory for it, or no room, nothing more is kept.
     fn keep(&mut self, piece: &[u8]) {
-        if self.makes_room() {
-            self.push(piece);
+        if !self.makes_room() {
+            return;
         }
-    }
-
-    /// Keeps what was read next, as far as it has room: `makes_room` was asked.
-    fn push(&mut self, piece: &[u8]) {
         let room = SEEN_BYTES.saturating_sub(self.text.len());
         let fits = piece.len().min(room);
         self.is_full = self.text.extend_from_slice(&piece[..fits]).is_err() || fits < piece.len();
@@ -402,7 +398,7 @@ impl<R: Source> Kept<R> {
                 self.is_over = true;
                 return Ok(true);
             }
-            self.seen.push(&piece[..count]);
+            self.seen.keep(&piece[..count]);
             if self.seen.is_full {
                 return Err(Failed);
             }
