@@ -2,11 +2,11 @@
 
 ghost use Rattle.std.specs.Prelude.{◌-◌, ◌<◌, ◌^◌};
 
-use crate::scripts::count_words;
+use crate::scripts::perform_on_script;
 use atomfs_answers::{Kept, report_picture, status_of_verdict};
 use atomfs_arguments::{Drawing, Subcommand};
-use fs_draw::{DrawFault, draw_input};
-use fs_draw_page::draw_page;
+use fs_draw::{DrawFault, DrawInput};
+use fs_draw_page::DrawPage;
 use fs_sched::{Schedule, Sink, Source};
 use std::alloc::Global;
 use std::io::Write;
@@ -22,12 +22,11 @@ pub(crate) fn draw<R: Source, W: Sink>(
     requires reads { R.failures reader.old.inner < 2 ^ 64 - 1 }
     requires writes { W.failures writer.old < 2 ^ 64 - 1 }
 {
-    if let Err(fault) = count_words(alloc, None, reader) {
-        return Err(DrawFault::Run(fault));
-    }
     let drawn = match drawing {
-        Drawing::Picture(view) => draw_input(alloc, reader, writer, schedule, view),
-        Drawing::Page => draw_page(alloc, reader, writer, schedule),
+        Drawing::Picture(view) => {
+            perform_on_script(alloc, reader, writer, DrawInput { schedule, view })
+        }
+        Drawing::Page => perform_on_script(alloc, reader, writer, DrawPage { schedule }),
     };
     match drawn {
         Ok(well) => Ok(status_of_verdict(well)),

@@ -6,19 +6,18 @@ ghost use Rattle.fs_sched_find.specs.declared.finding.TheConstants.{SEARCH_LIMIT
 ghost use Rattle.fs_sched_outcomes.specs.declared.running.TheConstants.{OUTCOME_LIMIT};
 ghost use Rattle.atomfs_arguments.specs.Commands.{AreWithin};
 
-use crate::from_tree::tree_of;
-use crate::scripts::count_words;
+use crate::formats::perform_in;
+use crate::from_tree::tree_for;
 use atomfs_answers::{
-    Kept, Line, report, report_fault, report_find, report_from, report_outcomes, report_words,
+    Kept, Line, report_fault, report_find, report_from, report_outcomes, report_words,
     status_of_verdict,
 };
 use atomfs_arguments::{Asserted, Drawn, Format};
 use fs_sched::{RunFault, Sink, Source};
-use fs_sched_find::{find_seed, read_what};
-use fs_sched_json::{find_object, seed_objects};
-use fs_sched_outcomes::{Assertion, Form, count_outcomes, read_assertion};
-use fs_sched_start::seeds_from;
-use fs_sched_threads::ThreadsFault;
+use fs_sched_find::{FindObject, FindSeed, read_what};
+use fs_sched_outcomes::{Assertion, CountOutcomes, Form, read_assertion};
+use fs_sched_start::{RunSeeds, SeedObjects};
+use fs_verdict::perform;
 use std::alloc::Global;
 use std::io::Write;
 use std::rt::Files;
@@ -39,18 +38,19 @@ pub(crate) fn seeds<T: Clock + Files, R: Source, W: Sink, E: Write>(
     requires reads { R.failures reader.old.inner < 2 ^ 64 - 1 }
     requires writes { W.failures writer.old < 2 ^ 64 - 1 }
 {
-    let mut tree = match tree_of(rt, alloc, drawn.from, errors) {
+    let mut tree = match tree_for(rt, alloc, drawn.from, reader, errors) {
         Ok(tree) => tree,
         Err(status) => return status,
     };
-    if let Err(fault) = count_words(alloc, tree.bytes(), reader) {
-        return report(errors, &reader.seen, Err(ThreadsFault::Run(fault)));
-    }
-    let (of_tree, by, first, runs) = (tree.take(), drawn.by, drawn.seed, drawn.runs);
-    let lawful = match format {
-        Format::Text => seeds_from(alloc, of_tree, by, reader, writer, first, runs, line),
-        Format::Json => seed_objects(alloc, of_tree, by, reader, writer, first, runs, line),
+    let (by, seed, runs) = (drawn.by, drawn.seed, drawn.runs);
+    let command = RunSeeds {
+        tree: tree.take(),
+        by,
+        seed,
+        runs,
     };
+    let objects = SeedObjects::new(seed, runs);
+    let lawful = perform_in(alloc, reader, writer, command, format, objects, line);
     line.erase();
     let outcome = match lawful {
         Ok(lawful) => Ok(status_of_verdict(lawful)),
@@ -99,18 +99,20 @@ pub(crate) fn outcomes<T: Clock + Files, R: Source, W: Sink, E: Write>(
         Ok(asserts) => asserts,
         Err(status) => return status,
     };
-    let mut tree = match tree_of(rt, alloc, drawn.from, errors) {
+    let mut tree = match tree_for(rt, alloc, drawn.from, reader, errors) {
         Ok(tree) => tree,
         Err(status) => return status,
     };
-    if let Err(fault) = count_words(alloc, tree.bytes(), reader) {
-        return report(errors, &reader.seen, Err(ThreadsFault::Run(fault)));
-    }
-    let (first, runs) = (drawn.seed, drawn.runs);
-    let of_tree = tree.take();
-    let outcome = count_outcomes(
-        alloc, of_tree, drawn.by, reader, writer, &asserts, first, runs, form, line,
-    );
+    let (by, seed, runs) = (drawn.by, drawn.seed, drawn.runs);
+    let command = CountOutcomes {
+        tree: tree.take(),
+        by,
+        asserts: &asserts,
+        seed,
+        runs,
+        form,
+    };
+    let outcome = perform(alloc, reader, writer, command, line);
     line.erase();
     report_outcomes(
         alloc,
@@ -119,7 +121,7 @@ pub(crate) fn outcomes<T: Clock + Files, R: Source, W: Sink, E: Write>(
         tree.name,
         &tree.seen,
         &asserts,
-        first,
+        seed,
         runs,
         form.json,
         outcome,
@@ -146,25 +148,26 @@ pub(crate) fn find<T: Clock + Files, R: Source, W: Sink, E: Write>(
         Ok(what) => what,
         Err(fault) => return report_words(errors, "where", fault),
     };
-    let mut tree = match tree_of(rt, alloc, drawn.from, errors) {
+    let mut tree = match tree_for(rt, alloc, drawn.from, reader, errors) {
         Ok(tree) => tree,
         Err(status) => return status,
     };
-    if let Err(fault) = count_words(alloc, tree.bytes(), reader) {
-        return report(errors, &reader.seen, Err(ThreadsFault::Run(fault)));
-    }
-    let (of_tree, by, first, runs) = (tree.take(), drawn.by, drawn.seed, drawn.runs);
-    let outcome = match format {
-        Format::Text => find_seed(alloc, of_tree, by, reader, writer, &what, first, runs, line),
-        Format::Json => find_object(alloc, of_tree, by, reader, writer, &what, first, runs, line),
+    let (by, seed, runs) = (drawn.by, drawn.seed, drawn.runs);
+    let command = FindSeed {
+        tree: tree.take(),
+        by,
+        what,
+        seed,
+        runs,
     };
+    let outcome = perform_in(alloc, reader, writer, command, format, FindObject, line);
     line.erase();
     report_find(
         errors,
         &reader.seen,
         tree.name,
         &tree.seen,
-        first,
+        seed,
         runs,
         outcome,
     )

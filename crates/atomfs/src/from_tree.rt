@@ -1,6 +1,6 @@
 //! Runs from the tree in a file, which is read first.
 
-ghost use Rattle.std.specs.Prelude.{◌-◌, ◌<◌, ◌^◌};
+ghost use Rattle.std.specs.Prelude.{◌≡◌, ◌-◌, ◌<◌, ◌^◌, OnOk};
 
 use crate::scripts::count_words;
 use atomfs_answers::{
@@ -9,9 +9,10 @@ use atomfs_answers::{
 };
 use fs_sched::{Device, Schedule, Silent, Sink, Source};
 use fs_sched_find::read_what;
-use fs_sched_shrink::{shrink_from, shrink_script};
-use fs_sched_start::{TreeText, run_from, whole_text};
+use fs_sched_shrink::ShrinkScript;
+use fs_sched_start::{RunFrom, TreeText, whole_text};
 use fs_sched_threads::ThreadsFault;
+use fs_verdict::perform;
 use std::alloc::Global;
 use std::fs::File;
 use std::io::Write;
@@ -22,7 +23,7 @@ use std::time::Clock;
 #[derive(Drop)]
 pub(crate) struct TreeFile<'a> {
     pub(crate) name: &'a str,
-    pub(crate) text: Option<Vec<u8>>,
+    text: Option<Vec<u8>>,
     pub(crate) seen: Seen,
 }
 
@@ -36,7 +37,7 @@ impl<'a> TreeFile<'a> {
     }
 
     /// Its bytes, if there is a file.
-    pub(crate) fn bytes(&self) -> Option<&[u8]> {
+    fn bytes(&self) -> Option<&[u8]> {
         match &self.text {
             Some(text) => Some(text.as_slice()),
             None => None,
@@ -66,20 +67,29 @@ fn tree_file<'a, T: Files, E: Write>(
     }
 }
 
-/// The same where a file is named.
-pub(crate) fn tree_of<'a, T: Files, E: Write>(
+/// The tree in a file, if one is named, from which the script of a source is to run. That has counts in the place of its words that
+/// name calls then. If something is not read, the answer is the status, and the message is written.
+pub(crate) fn tree_for<'a, T: Files, R: Source, E: Write>(
     rt: &T,
     alloc: Global,
     file: Option<&'a str>,
+    reader: &mut Kept<R>,
     errors: &mut E,
-) -> Result<TreeFile<'a>, u8> {
-    match file {
-        Some(file) => tree_file(rt, alloc, file, errors),
-        None => Ok(TreeFile {
+) -> Result<TreeFile<'a>, u8>
+    requires { R.failures reader.old.inner < 2 ^ 64 - 1 }
+    ensures { OnOk result (R.failures reader.new.inner ≡ R.failures reader.old.inner) }
+{
+    let tree = match file {
+        Some(file) => tree_file(rt, alloc, file, errors)?,
+        None => TreeFile {
             name: "",
             text: None,
             seen: Seen::new(alloc),
-        }),
+        },
+    };
+    match count_words(alloc, tree.bytes(), reader) {
+        Ok(()) => Ok(tree),
+        Err(fault) => Err(report(errors, &reader.seen, Err(ThreadsFault::Run(fault)))),
     }
 }
 
@@ -97,23 +107,18 @@ pub(crate) fn run_at<T: Clock + Files, R: Source, W: Sink, E: Write>(
     requires reads { R.failures reader.old.inner < 2 ^ 64 - 1 }
     requires writes { W.failures writer.old < 2 ^ 64 - 1 }
 {
-    let tree = match tree_file(rt, alloc, file, errors) {
+    let TreeFile { name, text, seen } = match tree_for(rt, alloc, Some(file), reader, errors) {
         Ok(tree) => tree,
         Err(status) => return status,
     };
-    if let Err(fault) = count_words(alloc, tree.bytes(), reader) {
-        return report(errors, &reader.seen, Err(ThreadsFault::Run(fault)));
-    }
-    let TreeFile {
-        name,
-        text: of_tree,
-        seen,
-    } = tree;
-    let of_tree = of_tree.unwrap_or(Vec::new(alloc));
+    let command = RunFrom {
+        tree: text.unwrap_or(Vec::new(alloc)),
+        schedule,
+    };
     let ended = if line.is_on_terminal() {
-        run_from(alloc, of_tree, reader, writer, schedule, line)
+        perform(alloc, reader, writer, command, line)
     } else {
-        run_from(alloc, of_tree, reader, writer, schedule, &mut Silent)
+        perform(alloc, reader, writer, command, &mut Silent)
     };
     let outcome = match ended {
         Ok(end) => Ok(status_of_run(&end)),
@@ -141,21 +146,14 @@ pub(crate) fn shrink<T: Files, R: Source, W: Sink, E: Write>(
         Ok(what) => what,
         Err(fault) => return report_words(errors, "where", fault),
     };
-    let tree = match tree_of(rt, alloc, file, errors) {
+    let mut tree = match tree_for(rt, alloc, file, reader, errors) {
         Ok(tree) => tree,
         Err(status) => return status,
     };
-    if let Err(fault) = count_words(alloc, tree.bytes(), reader) {
-        return report(errors, &reader.seen, Err(ThreadsFault::Run(fault)));
-    }
-    let TreeFile {
-        name,
-        text: of_tree,
-        seen,
-    } = tree;
-    let outcome = match of_tree {
-        Some(of_tree) => shrink_from(alloc, of_tree, reader, writer, &what),
-        None => shrink_script(alloc, reader, writer, &what),
+    let command = ShrinkScript {
+        tree: tree.take(),
+        what,
     };
-    report_shrink(errors, &reader.seen, name, &seen, outcome)
+    let outcome = perform(alloc, reader, writer, command, &mut ());
+    report_shrink(errors, &reader.seen, tree.name, &tree.seen, outcome)
 }

@@ -7,17 +7,16 @@ use atomfs_answers::{
     report_minimized, report_table, report_unopened, report_unwritten,
 };
 use atomfs_arguments::{Drawing, Histories as Asked, Recorded};
-use fs_draw::{DrawFault, View, draw_input};
+use fs_draw::{DrawFault, DrawInput, View};
 use fs_draw_page::noted_page;
 use fs_linearize_dialects::{Dialect, known_table, read_dialect};
-use fs_linearize_minimal::minimize_history;
+use fs_linearize_minimal::MinimizeHistory;
 use fs_linearize_text::{
-    Failing, Linearized, Outcome, learn_histories, linearize_bytes, linearize_history,
-    linearize_many,
+    Failing, LearnHistories, LinearizeHistory, LinearizeMany, Linearized, Outcome, linearize_bytes,
 };
 use fs_sched::{Device, RunFault, Schedule, Sink, Source, write_text};
 use fs_sched_start::whole_text;
-use fs_verdict::Made;
+use fs_verdict::{Made, perform};
 use std::alloc::{AllocError, Global};
 use std::fs::{File, create_dir_all};
 use std::io::{self, Write};
@@ -106,7 +105,7 @@ fn linearize_each<T: Clock + Files, R: Source, W: Sink, E: Write>(
     alloc: Global,
     reader: &mut Kept<R>,
     writer: &mut W,
-    dialect: &Dialect,
+    dialect: Dialect,
     limit: usize,
     folder: Option<&str>,
     errors: &mut E,
@@ -115,17 +114,19 @@ fn linearize_each<T: Clock + Files, R: Source, W: Sink, E: Write>(
     requires reads { R.failures reader.old.inner < 2 ^ 64 - 1 }
     requires writes { W.failures writer.old < 2 ^ 64 - 1 }
 {
-    let Some(folder) = folder else {
-        let outcome = linearize_many(alloc, reader, writer, dialect, limit, false, line);
-        line.erase();
-        return report_many(errors, &reader.seen, outcome);
-    };
-    if let Err(error) = create_dir_all(rt, folder) {
-        return report_unwritten(errors, folder, &error);
+    if let Some(folder) = folder {
+        if let Err(error) = create_dir_all(rt, folder) {
+            return report_unwritten(errors, folder, &error);
+        }
     }
-    let outcome = linearize_many(alloc, reader, writer, dialect, limit, true, line);
+    let command = LinearizeMany {
+        dialect,
+        limit,
+        keeps_failing: folder.is_some(),
+    };
+    let outcome = perform(alloc, reader, writer, command, line);
     line.erase();
-    if let Ok(told) = &outcome {
+    if let (Some(folder), Ok(told)) = (folder, &outcome) {
         if let Err(status) = write_each(rt, alloc, folder, &told.notes.kept, errors) {
             return status;
         }
@@ -202,8 +203,15 @@ fn write_picture<W: Sink>(
 ) -> Result<(), DrawFault>
     requires writes { W.failures writer.old < 2 ^ 64 - 1 }
 {
+    let schedule = Schedule::Given;
     let mut reader = Device::new(journal);
-    draw_input(alloc, &mut reader, writer, Schedule::Given, view)?;
+    perform(
+        alloc,
+        &mut reader,
+        writer,
+        DrawInput { schedule, view },
+        &mut (),
+    )?;
     Ok(())
 }
 
@@ -263,27 +271,32 @@ pub(crate) fn linearize<T: Clock + Files, R: Source, W: Sink, E: Write>(
             alloc,
             reader,
             writer,
-            &dialect,
+            dialect,
             limit,
             recorded.failing,
             errors,
             line,
         ),
         Asked::Core => {
-            let outcome = minimize_history(alloc, reader, writer, &dialect, limit, line);
+            let command = MinimizeHistory { dialect, limit };
+            let outcome = perform(alloc, reader, writer, command, line);
             line.erase();
             report_minimized(errors, &reader.seen, outcome)
         }
         Asked::Learn => {
-            let outcome = learn_histories(alloc, reader, writer);
+            let outcome = perform(alloc, reader, writer, LearnHistories, &mut ());
             report_learned(errors, &reader.seen, outcome)
         }
         Asked::Whole | Asked::Front => {
             if let Some(drawing) = recorded.drawn {
                 return draw_found(alloc, reader, writer, &dialect, limit, drawing, errors);
             }
-            let front = histories == Asked::Front;
-            let outcome = linearize_history(alloc, reader, writer, &dialect, limit, front, line);
+            let command = LinearizeHistory {
+                dialect,
+                limit,
+                front: histories == Asked::Front,
+            };
+            let outcome = perform(alloc, reader, writer, command, line);
             line.erase();
             report_linearize(errors, &reader.seen, outcome)
         }

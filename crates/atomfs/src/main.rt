@@ -13,6 +13,7 @@ ghost use Rattle.atomfs_arguments.specs.Commands.{IsWithin};
 
 mod drawing;
 mod drawn_runs;
+mod formats;
 mod from_tree;
 mod linearizing;
 mod scripts;
@@ -20,9 +21,10 @@ mod terminals;
 
 use crate::drawing::{draw, refused_terminal};
 use crate::drawn_runs::{find, outcomes, seeds};
+use crate::formats::perform_in;
 use crate::from_tree::{run_at, shrink};
 use crate::linearizing::linearize;
-use crate::scripts::count_words;
+use crate::scripts::{count_words, perform_on_script};
 use crate::terminals::{Terminals, excerpts_of, has_no_color, is_in_colours, layout_of};
 use atomfs_answers::{
     Erasing, Input, Kept, Line, Screen, SharedLine, report, report_check, report_draw,
@@ -32,15 +34,13 @@ use atomfs_answers::{
 use atomfs_arguments::{Asserted, Format, Invocation, Subcommand, parse};
 use atomfs_colours::Painting;
 use fs_explain::{Topic, explanation};
-use fs_sched::{
-    Device, RunFault, Schedule, Silent, Sink, Source, check_journal, run_script, write_text,
-};
-use fs_sched_json::check_object;
-use fs_sched_outcomes::{Form, add_outcomes};
+use fs_sched::{Device, RunFault, Schedule, Silent, Sink, Source, run_script, write_text};
+use fs_sched_outcomes::AddOutcomes;
 use fs_sched_threads::{ThreadsFault, run_threads};
-use fs_trace::{ScheduleFault, schedule_script};
-use fs_trace_entries::{Notation, Traced, trace_input};
-use fs_trace_replay::{Asked, ReplayFault, Replayed, read_question, replay_input};
+use fs_trace::ScheduleScript;
+use fs_trace_entries::{Notation, TraceInput};
+use fs_trace_replay::{Asked, ReplayFault, ReplayInput, Replayed, read_question};
+use fs_verdict::{CheckJournal, CheckObject, perform};
 use std::alloc::Global;
 use std::convert::AsStr;
 use std::fs::File;
@@ -82,22 +82,6 @@ fn notation_of(format: Format) -> Notation {
     }
 }
 
-/// Writes what each event of a script's run did, or the entries of a journal.
-fn trace<R: Source, W: Sink>(
-    alloc: Global,
-    reader: &mut Kept<R>,
-    writer: &mut W,
-    schedule: Schedule,
-    every: bool,
-    notation: Notation,
-) -> Result<Traced, RunFault>
-    requires reads { R.failures reader.old.inner < 2 ^ 64 - 1 }
-    requires writes { W.failures writer.old < 2 ^ 64 - 1 }
-{
-    count_words(alloc, None, reader)?;
-    trace_input(alloc, reader, writer, schedule, every, notation)
-}
-
 /// Answers what is asked of the trees of a journal, or of a script's run. The words are read before the input.
 fn tree<R: Source, W: Sink>(
     alloc: Global,
@@ -113,10 +97,7 @@ fn tree<R: Source, W: Sink>(
         Ok(question) => question,
         Err(fault) => return Err(fault),
     };
-    if let Err(fault) = count_words(alloc, None, reader) {
-        return Err(ReplayFault::Run(fault));
-    }
-    replay_input(alloc, reader, writer, schedule, &question)
+    perform_on_script(alloc, reader, writer, ReplayInput { schedule, question })
 }
 
 /// Runs the threads of a script on real ones, and answers the status.
@@ -141,25 +122,6 @@ fn threads<T: Threads + Wait + Clock + Sync, R: Source, W: Sink>(
     }
 }
 
-/// Writes a script again with the events of its run, and answers the status.
-fn schedule<R: Source, W: Sink>(
-    alloc: Global,
-    reader: &mut Kept<R>,
-    writer: &mut W,
-    schedule: Schedule,
-) -> Result<u8, ScheduleFault>
-    requires reads { R.failures reader.old.inner < 2 ^ 64 - 1 }
-    requires writes { W.failures writer.old < 2 ^ 64 - 1 }
-{
-    if let Err(fault) = count_words(alloc, None, reader) {
-        return Err(ScheduleFault::Run(fault));
-    }
-    match schedule_script(alloc, reader, writer, schedule) {
-        Ok(()) => Ok(0),
-        Err(fault) => Err(fault),
-    }
-}
-
 /// Writes what one topic means, or two, and answers the status.
 fn explain<W: Sink>(
     alloc: Global,
@@ -176,25 +138,9 @@ fn explain<W: Sink>(
     Ok(0)
 }
 
-/// Adds up lines of ends, and answers the status.
-fn added_outcomes<R: Source, W: Sink>(
-    alloc: Global,
-    reader: &mut R,
-    writer: &mut W,
-    form: Form,
-) -> Result<u8, RunFault>
-    requires reads { R.failures reader.old < 2 ^ 64 - 1 }
-    requires writes { W.failures writer.old < 2 ^ 64 - 1 }
-{
-    match add_outcomes(alloc, reader, writer, form) {
-        Ok(()) => Ok(0),
-        Err(fault) => Err(fault),
-    }
-}
-
 /// Does what a subcommand asks for, and what is asserted of its runs, from a reader to a writer, and answers the exit
 /// status. The message of a fault goes to `errors`. If these go to a terminal, it shows how far a long command is.
-fn perform<T: Threads + Wait + Clock + Files + Sync, R: Source, W: Sink, E: Write>(
+fn carry_out<T: Threads + Wait + Clock + Files + Sync, R: Source, W: Sink, E: Write>(
     rt: &T,
     alloc: Global,
     subcommand: &Subcommand<'_>,
@@ -224,7 +170,10 @@ fn perform<T: Threads + Wait + Clock + Files + Sync, R: Source, W: Sink, E: Writ
                 rt, alloc, *drawn, asserted, *form, reader, writer, errors, &mut line,
             );
         }
-        Subcommand::AddedOutcomes(form) => added_outcomes(alloc, reader, writer, *form),
+        Subcommand::AddedOutcomes(form) => {
+            let command = AddOutcomes { form: *form };
+            perform(alloc, reader, writer, command, &mut ()).map(|()| 0)
+        }
         Subcommand::Find(what, drawn, format) => {
             return find(
                 rt, alloc, what, *drawn, *format, reader, writer, errors, &mut line,
@@ -237,12 +186,9 @@ fn perform<T: Threads + Wait + Clock + Files + Sync, R: Source, W: Sink, E: Writ
             let outcome = tree(alloc, reader, writer, *order, *asked);
             return report_tree(errors, &reader.seen, outcome);
         }
-        Subcommand::Check(Format::Text) => {
-            let outcome = check_journal(alloc, reader, writer);
-            return report_check(errors, &reader.seen, outcome);
-        }
-        Subcommand::Check(Format::Json) => {
-            let outcome = check_object(alloc, reader, writer);
+        Subcommand::Check(format) => {
+            let (command, form) = (CheckJournal, CheckObject);
+            let outcome = perform_in(alloc, reader, writer, command, *format, form, &mut ());
             return report_check(errors, &reader.seen, outcome);
         }
         Subcommand::Linearize(histories, limit, recorded) => {
@@ -253,8 +199,12 @@ fn perform<T: Threads + Wait + Clock + Files + Sync, R: Source, W: Sink, E: Writ
         }
         Subcommand::Explain(first, second) => explain(alloc, writer, *first, *second),
         Subcommand::Trace(order, every, format) => {
-            let notation = notation_of(*format);
-            let outcome = trace(alloc, reader, writer, *order, *every, notation);
+            let command = TraceInput {
+                schedule: *order,
+                every: *every,
+                notation: notation_of(*format),
+            };
+            let outcome = perform_on_script(alloc, reader, writer, command);
             return report_trace(errors, &reader.seen, outcome);
         }
         Subcommand::Draw(order, drawing) => {
@@ -262,7 +212,8 @@ fn perform<T: Threads + Wait + Clock + Files + Sync, R: Source, W: Sink, E: Writ
             return report_draw(errors, &reader.seen, outcome);
         }
         Subcommand::Schedule(order) => {
-            let outcome = schedule(alloc, reader, writer, *order);
+            let command = ScheduleScript { schedule: *order };
+            let outcome = perform_on_script(alloc, reader, writer, command).map(|()| 0);
             return report_schedule(errors, &reader.seen, outcome);
         }
         Subcommand::Threads(journal) => {
@@ -337,7 +288,7 @@ where
     let is_painted = is_in_colours(&asked, terminals);
     let painting = Painting::new(alloc, Device::new(output), layout, is_painted);
     let mut writer = Erasing::new(painting, screen);
-    perform(
+    carry_out(
         rt,
         alloc,
         &asked.command,

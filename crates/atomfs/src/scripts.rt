@@ -3,9 +3,10 @@
 ghost use Rattle.std.specs.Prelude.{◌≡◌, ◌-◌, ◌<◌, ◌^◌, OnOk};
 
 use atomfs_answers::Kept;
-use fs_sched::{Policy, RunFault, Source};
+use fs_sched::{Policy, RunFault, Sink, Source};
 use fs_sched_reach::{has_words, plain_text, written_out};
 use fs_sched_start::{StartFault, TreeText, planned_in};
+use fs_verdict::{Command, perform};
 use std::alloc::{AllocError, Global};
 
 /// The text of the tree at which runs begin: a copy of that in a file, if there is one.
@@ -70,4 +71,21 @@ pub(crate) fn count_words<R: Source>(
         Ok(None) => Ok(()),
         Err(fault) => Err(fault),
     }
+}
+
+/// Performs a command on a script, which has counts in the place of its words that name calls, or on a journal.
+pub(crate) fn perform_on_script<C: Command<()>, R: Source, W: Sink>(
+    alloc: Global,
+    reader: &mut Kept<R>,
+    writer: &mut W,
+    command: C,
+) -> Result<C::End, C::Fault>
+    requires reads { R.failures reader.old.inner < 2 ^ 64 - 1 }
+    requires writes { W.failures writer.old < 2 ^ 64 - 1 }
+    requires asks { C.Asks command }
+{
+    if let Err(fault) = count_words(alloc, None, reader) {
+        return Err(C::Fault::from(fault));
+    }
+    perform(alloc, reader, writer, command, &mut ())
 }

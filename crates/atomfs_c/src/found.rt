@@ -10,7 +10,7 @@ use fs_linearize_text::{Linearized, Outcome, linearize_bytes};
 use fs_verdict::{Made, RunFault};
 use std::alloc::{AllocError, Global};
 
-/// By this number what is found is told as `linearize_history` writes it.
+/// By this number what is found is told as `LinearizeHistory` makes it.
 pub const LINE: u8 = 0;
 
 /// By this one with `none` the journal up to the return that nothing explains.

@@ -6,10 +6,11 @@ ghost use Rattle.fs_draw.specs.Pictures.{IsPictureOf};
 ghost use Rattle.fs_embed.specs.Statuses.{IsRefusal};
 ghost use Rattle.atomfs_c.specs.ToolTexts.{around_of, IsToldNoPicture};
 
-use fs_draw::{DrawFault, View, draw_input};
+use fs_draw::{DrawFault, DrawInput, View};
 use fs_embed::status::NO_CALL;
 use fs_embed::told::tell_fault;
-use fs_sched::{Device, RunFault, Schedule};
+use fs_sched::{RunFault, Schedule};
+use fs_verdict::Command;
 use std::alloc::Global;
 
 /// By this number the whole of a text is drawn.
@@ -25,7 +26,7 @@ pub fn around_of(number: u64) -> Option<u64>
     Some(number)
 }
 
-/// The picture of a text in memory, as `draw_input` writes it.
+/// The picture of a text in memory, as `DrawInput` makes it.
 pub fn draw_bytes(
     alloc: Global,
     text: &[u8],
@@ -35,15 +36,16 @@ pub fn draw_bytes(
     ensures drawn { IfOk result (λ picture. (well : Bool) × IsPictureOf by text.now well picture.items) }
     ensures fault { IfErr result (IsFaultOfPicture by call text.now) }
 {
-    let mut reader = Device::new(text);
-    let mut writer = Device::new(Vec::new(alloc));
-    match draw_input(alloc, &mut reader, &mut writer, by, View::of(call)) {
-        Ok(_) => Ok(writer.inner),
-        Err(fault @ DrawFault::NoCall(_)) => Err(fault),
-        Err(fault @ DrawFault::Run(RunFault::Input(_))) => Err(fault),
-        Err(fault @ DrawFault::Run(RunFault::UnderWay(_))) => Err(fault),
-        // Bytes in memory are there to be read, and are written as long as there is memory.
-        Err(_) => Err(DrawFault::Run(RunFault::OutOfMemory)),
+    let Ok(text) = Vec::from_slice(alloc, text) else {
+        return Err(DrawFault::Run(RunFault::OutOfMemory));
+    };
+    let command = DrawInput {
+        schedule: by,
+        view: View::of(call),
+    };
+    match command.make(alloc, text, &mut ()) {
+        Ok(made) => Ok(made.text),
+        Err(fault) => Err(fault),
     }
 }
 

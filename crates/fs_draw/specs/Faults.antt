@@ -8,7 +8,7 @@ use Rattle.fs_words.specs.declared.fault.ScriptFault.{ScriptFault}
 use Rattle.fs_verdict.specs.declared.fault.RunFault.{RunFault}
 use Rattle.fs_verdict.specs.declared.fault.RunFault.TheVariants as run
 use Rattle.fs_script.specs.Script.{script_of}
-use Rattle.fs_draw.specs.Pictures.{is_journal}
+use Rattle.fs_verdict.specs.Checks.{is_journal}
 use Rattle.fs_draw.specs.declared.fault.DrawFault.{DrawFault}
 use Rattle.fs_draw.specs.declared.fault.DrawFault.TheVariants.{Run, NoCall}
 
@@ -16,6 +16,10 @@ use Rattle.fs_draw.specs.declared.fault.DrawFault.TheVariants.{Run, NoCall}
 abbrev pub status_of_draw : DrawFault → ℕ
 status_of_draw (Run fault) = status_of_fault fault
 status_of_draw (NoCall number) = 2
+
+-- the fault that memory ran out
+abbrev pub out_of_memory : DrawFault
+out_of_memory = Run run.OutOfMemory
 
 -- what is wrong with an input: as a journal, or as a script
 abbrev pub HasFaultAs : Bool → List ℕ → ScriptFault → Type 0

@@ -1,3 +1,4 @@
 pub mod Faults
 pub mod Pictures
+pub mod Makes
 pub mod code

@@ -1,9 +1,9 @@
 -- What a picture is of, and whether that went well.
 use Rattle.std.specs.Prelude.{ℕ, ◌≡◌, Bool, true, false, ◌==◌, List, ◌++◌, Ok, codes}
-use Rattle.std.specs.List.{starts_with}
 use Rattle.fs_timeline.specs.declared.verdict.Verdict.{Verdict}
 use Rattle.fs_script.specs.Script.{script_of}
 use Rattle.fs_script.specs.declared.script.Script.{Script}
+use Rattle.fs_verdict.specs.Checks.{is_journal}
 use Rattle.fs_sched.specs.Checks.{is_lawful, verdict_of}
 use Rattle.fs_sched.specs.Runs.{Stage, end_of}
 use Rattle.fs_sched.specs.declared.running.RunEnd.{RunEnd}
@@ -11,10 +11,6 @@ use Rattle.fs_sched.specs.declared.schedule.Schedule.{Schedule}
 use Rattle.fs_sched_witness.specs.Moments.{entries_told}
 use Rattle.fs_sched.specs.Moments.{TellsRun}
 use Rattle.fs_sched_witness.specs.declared.moments.Moment.{Moment}
-
--- whether an input is read as a journal: by its first bytes
-abbrev pub is_journal : List ℕ → Bool
-is_journal input = starts_with (λ a b. a == b) input (codes "atomfs-journal")
 
 -- whether each call of a script returned
 abbrev pub has_returned : RunEnd → Bool

@@ -1,1 +1,2 @@
-pub mod Mades
+-- What ties the code to the definitions: of it nothing has to be believed.
+pub mod Laws

@@ -1,22 +1,19 @@
-//! The runner that draws a script's run, or a journal.
+//! The command that draws a script's run, or a journal.
 
-ghost use Rattle.std.specs.Prelude.{◌≡◌, ◌≢◌, ◌+◌, ◌-◌, ◌<◌, ◌^◌, ℕ, Bool, true, false, List, Option, Ok, Err, Some, IfOk, OnOk, OnErr, IfErr, IfSome, IsErrOf};
-ghost use Rattle.std.specs.Io.KnownBytes.{Appends, IsAtEnd};
-ghost use Rattle.fs_words.specs.declared.fault.ScriptFault.{ScriptFault};
-ghost use Rattle.fs_sched.specs.Devices.{KeepsDevices, WritesBeginning};
-ghost use Rattle.fs_sched.specs.Runs.{ReachesStop};
-ghost use Rattle.fs_draw.specs.Faults.{HasFault, IsFaultBy, IsFaultOfPicture};
-ghost use Rattle.fs_draw.specs.Pictures.{IsOf, IsOfJournal, IsOfRun, IsPictureOf, is_journal};
-ghost use Rattle.fs_draw.specs.code.Mades.{MakesPicture, out_of_memory};
+ghost use Rattle.std.specs.Prelude.{◌≡◌, ℕ, Bool, true, false, List, IfOk, IfErr};
+ghost use Rattle.fs_draw.specs.Faults.{IsFaultBy, IsFaultOfPicture, out_of_memory};
+ghost use Rattle.fs_verdict.specs.Checks.{is_journal};
+ghost use Rattle.fs_draw.specs.Pictures.{IsOf, IsOfJournal, IsOfRun};
+ghost use Rattle.fs_draw.specs.Makes.{MakesPicture};
 
 use crate::fault::DrawFault;
 use crate::picture::picture_of;
 use crate::view::View;
 use fs_draw_scene::{Scene, Strip, folded, scene_of_journal, scene_of_run};
 use fs_journal::check_from;
-use fs_sched::{RunFault, Schedule, between, is_lawful, journal_in, script_in, watch};
+use fs_sched::{RunFault, Schedule, is_lawful, journal_in, script_in, watch};
 use fs_trace_story::Teller;
-use fs_verdict::{Made, Sink, Source, transform};
+use fs_verdict::{Command, Made, is_journal};
 use std::alloc::Global;
 
 /// The fault where memory ran out.
@@ -97,13 +94,6 @@ fn of_journal(alloc: Global, text: &[u8], call: Option<u64>) -> Result<Drawing, 
     })
 }
 
-/// Whether a text is to be read as a journal.
-fn is_journal(text: &[u8]) -> bool
-    ensures { result ≡ is_journal text.now }
-{
-    text.starts_with(b"atomfs-journal")
-}
-
 /// The scene of a text, or of the part around a call; and whether what the whole shows went well.
 fn drawing_of(
     alloc: Global,
@@ -142,52 +132,38 @@ fn draw_text(
     }
 }
 
-/// Reads a script to its end, runs it by a schedule and draws its run; or reads a journal and draws that, whatever the schedule.
-/// Where the view has a call's number, that call and those that overlap it are drawn alone. The picture is an SVG file, made before its
-/// first byte is written, and a function of what is read and asked for. The answer is whether each call of the script returned,
-/// or the journal is lawful.
-pub fn draw_input<R: Source, W: Sink>(
-    alloc: Global,
-    reader: &mut R,
-    writer: &mut W,
-    schedule: Schedule,
-    view: View,
-) -> Result<bool, DrawFault>
-    requires reads { R.failures reader.old < 2 ^ 64 - 1 }
-    requires writes { W.failures writer.old < 2 ^ 64 - 1 }
+/// Draws a picture of a script's run by a schedule, or of a journal, whatever the schedule: a journal is what has the first bytes of one. If
+/// the view has a call's number, that call and those that overlap it are drawn alone. The picture is an SVG file, and a function of the
+/// input and of what is asked for. The answer is whether each call of the script returned, or the journal is lawful. Who listens hears
+/// nothing. There is no picture if the input has a fault, if no call has the number, or if memory runs out. Nor is there one if the script
+/// comes to a checkpoint while calls are pending.
+#[derive(Clone, Copy, Debug)]
+pub struct DrawInput {
+    /// The order of the run's events.
+    pub schedule: Schedule,
+    /// What is drawn, and how.
+    pub view: View,
+}
 
-    // What is written is a picture of a run of the script that was read, or of the journal, by its first bytes; and the answer how that went.
-    ensures ran { IfOk result (λ well. (text : List ℕ)
-        × IfSome (R.remaining reader.old) (λ input. IsPictureOf schedule input well text)
-        × Appends (W.contents writer.old) (W.contents writer.new) text) }
-    ensures end { OnOk result (IsAtEnd (R.remaining reader.new)) }
-    ensures input { (f : ScriptFault) → result ≡ Err (DrawFault.Run (RunFault.Input f))
-        → IfSome (R.remaining reader.old) (λ input. HasFault input f) }
-    ensures full { result ≢ Err (DrawFault.Run RunFault.Full) }
-    ensures no_call { (number : ℕ) → result ≡ Err (DrawFault.NoCall number) → view.around ≡ Some number }
+impl<Listener> Command<Listener> for DrawInput {
+    ghost use Rattle.fs_draw.specs.code.Laws.{picture_honest};
 
-    // `UnderWay` comes where the script comes to a checkpoint while calls are under way; then it has no run.
-    ensures under_way { (c : ℕ) → result ≡ Err (DrawFault.Run (RunFault.UnderWay c))
-        → IfSome (R.remaining reader.old) (λ input. ReachesStop schedule input (RunFault.UnderWay c)) }
+    type End = bool;
 
-    // A device is blamed only where it failed in this call; after a failed write a beginning of the picture stands, and after every
-    // other error nothing was written.
-    ensures devices { KeepsDevices R.failures W.failures reader.old reader.new writer.old writer.new
-        (DrawFault.Run RunFault.Read) (DrawFault.Run RunFault.Write) result }
-    ensures beginning { IsErrOf result (DrawFault.Run RunFault.Write) → (well : Bool) × (text : List ℕ)
-        × IfSome (R.remaining reader.old) (λ input. IsPictureOf schedule input well text)
-        × WritesBeginning text (W.contents writer.old) (W.contents writer.new) }
-{
-    let ended = transform(
-        alloc,
-        reader,
-        writer,
-        |text| -> Result<Made<bool>, DrawFault>
-            ensures { MakesPicture schedule view.around text.items result }
-        { draw_text(alloc, text, schedule, view) },
-    );
-    match ended {
-        Ok(well) => Ok(well),
-        Err(failure) => Err(between(failure)),
+    type Fault = DrawFault;
+
+    ghost Asks = { λ _. Unit {0} };
+
+    ghost Makes = { λ c. MakesPicture c.schedule c.view.around };
+
+    fn make(
+        self,
+        alloc: Global,
+        input: Vec<u8>,
+        _listener: &mut Listener,
+    ) -> Result<Made<bool>, DrawFault> {
+        draw_text(alloc, input, self.schedule, self.view)
     }
+
+    ghost honest = { λ c. picture_honest c.schedule c.view.around };
 }

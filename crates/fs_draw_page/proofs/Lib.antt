@@ -1,3 +1,2 @@
 mod Making
 mod Reading
-mod Reasons

@@ -1,3 +1,4 @@
 pub mod Html
 pub mod Pages
+pub mod Makes
 pub mod code

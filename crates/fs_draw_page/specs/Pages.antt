@@ -6,7 +6,8 @@ use Rattle.fs_sched.specs.declared.running.RunEnd.{RunEnd}
 use Rattle.fs_sched.specs.declared.schedule.Schedule.{Schedule}
 use Rattle.fs_sched.specs.declared.schedule.Schedule.TheVariants.{Given}
 use Rattle.fs_trace.specs.Traces.{IsTraceOf}
-use Rattle.fs_draw.specs.Pictures.{IsPictureOf, has_returned, is_journal}
+use Rattle.fs_verdict.specs.Checks.{is_journal}
+use Rattle.fs_draw.specs.Pictures.{IsPictureOf, has_returned}
 use Rattle.fs_draw_page.specs.Html.{printed, read_html}
 use Rattle.fs_draw_page.specs.declared.template.TheConstants.{BEFORE, BETWEEN, AFTER}
 

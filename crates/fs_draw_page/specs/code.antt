@@ -1,3 +1,3 @@
 -- What ties the code to the definitions: of it nothing has to be believed.
 pub mod Marks
-pub mod Mades
+pub mod Laws

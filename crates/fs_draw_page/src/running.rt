@@ -1,24 +1,21 @@
-//! The runner that writes the page of a script's run, or of a journal.
+//! The command that makes the page of a script's run, or of a journal.
 
-ghost use Rattle.std.specs.Prelude.{◌≡◌, ◌≢◌, ◌++◌, ◌-◌, ◌<◌, ◌^◌, ℕ, List, Bool, true, false, None, Ok, Err, IfOk, OnOk, OnErr, IfErr, IfSome, IsErrOf, codes};
-ghost use Rattle.std.specs.Io.KnownBytes.{Appends, IsAtEnd};
-ghost use Rattle.fs_words.specs.declared.fault.ScriptFault.{ScriptFault};
+ghost use Rattle.std.specs.Prelude.{◌≡◌, ◌++◌, Bool, true, false, None, IfOk, IfErr, codes};
 ghost use Rattle.fs_timeline.specs.declared.verdict.Verdict.{Verdict};
 ghost use Rattle.fs_sched.specs.Checks.{verdict_line};
-ghost use Rattle.fs_sched.specs.Devices.{KeepsDevices, WritesBeginning};
-ghost use Rattle.fs_sched.specs.Runs.{ReachesStop};
-ghost use Rattle.fs_draw.specs.Faults.{HasFault, IsFaultBy, IsFaultOfPicture};
-ghost use Rattle.fs_draw.specs.Pictures.{IsPictureOf, is_journal};
+ghost use Rattle.fs_draw.specs.Faults.{IsFaultBy, IsFaultOfPicture};
+ghost use Rattle.fs_verdict.specs.Checks.{is_journal};
+ghost use Rattle.fs_draw.specs.Pictures.{IsPictureOf};
 ghost use Rattle.fs_draw_page.specs.Pages.{IsNotedPage, IsPageOf, IsPlayedAs, IsPlayedJournal, IsPlayedRun};
-ghost use Rattle.fs_draw_page.specs.code.Mades.{MakesPage};
+ghost use Rattle.fs_draw_page.specs.Makes.{MakesPage};
 
 use crate::page::page_of;
-use fs_draw::{DrawFault, View, draw_input};
+use fs_draw::{DrawFault, DrawInput, View};
 use fs_journal::check_from;
-use fs_sched::{RunFault, Schedule, between, is_lawful, journal_in};
+use fs_sched::{RunFault, Schedule, is_lawful, journal_in};
 use fs_timeline::Verdict;
 use fs_trace::trace_bytes;
-use fs_verdict::{Device, Made, Sink, Source, push_verdict, transform};
+use fs_verdict::{Command, Made, is_journal, push_verdict};
 use fs_words::Addition;
 use std::alloc::{AllocError, Global};
 
@@ -78,13 +75,6 @@ fn journal_text(alloc: Global, notes: &[u8], text: &[u8]) -> Result<Made<bool>, 
     }
 }
 
-/// Whether a text is to be read as a journal.
-fn is_journal(text: &[u8]) -> bool
-    ensures { result ≡ is_journal text.now }
-{
-    text.starts_with(b"atomfs-journal")
-}
-
 /// What the page of a text plays, and whether that went well.
 fn played_in(alloc: Global, text: &[u8], schedule: Schedule) -> Result<Made<bool>, DrawFault>
     ensures played { IfOk result (λ made. IsPlayedAs (is_journal text.now) schedule text.now made.end made.text.items) }
@@ -101,11 +91,14 @@ fn played_in(alloc: Global, text: &[u8], schedule: Schedule) -> Result<Made<bool
 fn picture_in(alloc: Global, text: &[u8], schedule: Schedule) -> Result<Vec<u8>, AllocError>
     ensures { IfOk result (λ picture. (well : Bool) × IsPictureOf schedule text.now well picture.items) }
 {
-    let mut reader = Device::new(text);
-    let mut writer = Device::new(Vec::new(alloc));
-    match draw_input(alloc, &mut reader, &mut writer, schedule, View::of(None)) {
-        Ok(_) => Ok(writer.inner),
-        // What is drawn was played before, and bytes in memory are there to be read and written as long as there is memory.
+    let input = Vec::from_slice(alloc, text)?;
+    let command = DrawInput {
+        schedule,
+        view: View::of(None),
+    };
+    match command.make(alloc, input, &mut ()) {
+        Ok(made) => Ok(made.text),
+        // What is drawn was played before: only memory can be wanting.
         Err(_) => Err(AllocError),
     }
 }
@@ -127,7 +120,7 @@ fn page_in(alloc: Global, text: &[u8], schedule: Schedule) -> Result<Made<bool>,
     }
 }
 
-/// The page of a text in memory, as `draw_page` writes it, and whether each call of the script returned, or the journal is lawful.
+/// The page of a text in memory, as `DrawPage` makes it, and whether each call of the script returned, or the journal is lawful.
 pub fn page_bytes(alloc: Global, text: &[u8], schedule: Schedule) -> Result<Made<bool>, DrawFault>
     ensures page { IfOk result (λ made. IsPageOf schedule text.now made.end made.text.items) }
     ensures fault { IfErr result (IsFaultOfPicture schedule None text.now) }
@@ -154,50 +147,35 @@ pub fn noted_page(alloc: Global, journal: &[u8], notes: &[u8]) -> Result<Made<bo
     }
 }
 
-/// Reads a script to its end, runs it by a schedule and writes a page that plays its run; or reads a journal and writes a page that
-/// plays that, whatever the schedule. The page is one file of HTML, made before its first byte is written, and a function of what is
-/// read and asked for. The answer is whether each call of the script returned, or the journal is lawful.
-pub fn draw_page<R: Source, W: Sink>(
-    alloc: Global,
-    reader: &mut R,
-    writer: &mut W,
-    schedule: Schedule,
-) -> Result<bool, DrawFault>
-    requires reads { R.failures reader.old < 2 ^ 64 - 1 }
-    requires writes { W.failures writer.old < 2 ^ 64 - 1 }
+/// Makes a page that plays a script's run by a schedule, or a journal, whatever the schedule: a journal is what has the first bytes of one.
+/// The page is one file of HTML, and a function of the input and of what is asked for. The answer is whether each call of the script
+/// returned, or the journal is lawful. Who listens hears nothing. There is no page if the input has a fault, if its script comes to a
+/// checkpoint while calls are pending, or if memory runs out.
+#[derive(Clone, Copy, Debug)]
+pub struct DrawPage {
+    /// The order of the run's events.
+    pub schedule: Schedule,
+}
 
-    // What is written is the page of a run of the script that was read, or of the journal, by its first bytes; and the answer how that went.
-    ensures ran { IfOk result (λ well. (text : List ℕ)
-        × IfSome (R.remaining reader.old) (λ input. IsPageOf schedule input well text)
-        × Appends (W.contents writer.old) (W.contents writer.new) text) }
-    ensures end { OnOk result (IsAtEnd (R.remaining reader.new)) }
-    ensures input { (f : ScriptFault) → result ≡ Err (DrawFault.Run (RunFault.Input f))
-        → IfSome (R.remaining reader.old) (λ input. HasFault input f) }
-    ensures full { result ≢ Err (DrawFault.Run RunFault.Full) }
-    ensures no_call { (number : ℕ) → result ≢ Err (DrawFault.NoCall number) }
+impl<Listener> Command<Listener> for DrawPage {
+    ghost use Rattle.fs_draw_page.specs.code.Laws.{page_honest};
 
-    // `UnderWay` comes where the script comes to a checkpoint while calls are under way; then it has no run.
-    ensures under_way { (c : ℕ) → result ≡ Err (DrawFault.Run (RunFault.UnderWay c))
-        → IfSome (R.remaining reader.old) (λ input. ReachesStop schedule input (RunFault.UnderWay c)) }
+    type End = bool;
 
-    // A device is blamed only where it failed in this call; after a failed write a beginning of the page stands, and after every
-    // other error nothing was written.
-    ensures devices { KeepsDevices R.failures W.failures reader.old reader.new writer.old writer.new
-        (DrawFault.Run RunFault.Read) (DrawFault.Run RunFault.Write) result }
-    ensures beginning { IsErrOf result (DrawFault.Run RunFault.Write) → (well : Bool) × (text : List ℕ)
-        × IfSome (R.remaining reader.old) (λ input. IsPageOf schedule input well text)
-        × WritesBeginning text (W.contents writer.old) (W.contents writer.new) }
-{
-    let ended = transform(
-        alloc,
-        reader,
-        writer,
-        |text| -> Result<Made<bool>, DrawFault>
-            ensures { MakesPage schedule text.items result }
-        { page_in(alloc, text.as_slice(), schedule) },
-    );
-    match ended {
-        Ok(well) => Ok(well),
-        Err(failure) => Err(between(failure)),
+    type Fault = DrawFault;
+
+    ghost Asks = { λ _. Unit {0} };
+
+    ghost Makes = { λ c. MakesPage c.schedule };
+
+    fn make(
+        self,
+        alloc: Global,
+        input: Vec<u8>,
+        _listener: &mut Listener,
+    ) -> Result<Made<bool>, DrawFault> {
+        page_in(alloc, input.as_slice(), self.schedule)
     }
+
+    ghost honest = { λ c. page_honest c.schedule };
 }

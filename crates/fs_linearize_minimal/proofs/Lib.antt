@@ -2,4 +2,3 @@ mod PartLemmas
 mod ReasonLemmas
 mod RefusedLemmas
 mod EachLemmas
-mod EndLemmas

@@ -3,4 +3,5 @@ pub mod Reasons
 pub mod Minimal
 pub mod Minimizing
 pub mod Texts
+pub mod Makes
 pub mod code

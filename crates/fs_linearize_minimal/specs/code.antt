@@ -1,3 +1,4 @@
 -- What ties the code to the definitions: of it nothing has to be believed.
 pub mod Tries
-pub mod Mades
+pub mod Cuts
+pub mod Laws

@@ -1,13 +1,11 @@
-//! The runner that leaves of a history without an order what shows it.
+//! The command that leaves of a history without an order what shows it.
 
-ghost use Rattle.std.specs.Prelude.{[], ◌≡◌, ◌≢◌, ◌+◌, ◌-◌, ◌<◌, ◌^◌, ℕ, List, Ok, Err, IfOk, OnOk, OnErr, IfErr, IfSome, IsErrOf};
-ghost use Rattle.std.specs.Io.KnownBytes.{Appends, IsAtEnd};
-ghost use Rattle.fs_words.specs.declared.fault.ScriptFault.{ScriptFault};
-ghost use Rattle.fs_verdict.specs.Devices.{KeepsDevices};
+ghost use Rattle.std.specs.Prelude.{[], ◌≡◌, IfOk};
 ghost use Rattle.fs_linearize_text.specs.Texts.{history_of};
 ghost use Rattle.fs_linearize_minimal.specs.Minimal.{IsRefuted};
 ghost use Rattle.fs_linearize_minimal.specs.Minimizing.{IsMinimizing};
-ghost use Rattle.fs_linearize_minimal.specs.code.Mades.{IsCut, IsRefusedBy, IsWrittenOf, MakesMinimal};
+ghost use Rattle.fs_linearize_minimal.specs.Makes.{MakesMinimal};
+ghost use Rattle.fs_linearize_minimal.specs.code.Cuts.{IsCut, IsRefusedBy};
 
 use crate::cutting::{cut_by_halves, cut_ones};
 use crate::parts::{calls_in, copies};
@@ -19,7 +17,7 @@ use fs_linearize_histories::{Heard, HistoryFault};
 use fs_linearize_text::{History, read_history};
 use fs_names::CallNo;
 use fs_seq::SeqTree;
-use fs_verdict::{Made, RunFault, Sink, Source, between, transform};
+use fs_verdict::{Command, Made, RunFault};
 use std::alloc::{AllocError, Global};
 
 /// What came of a history.
@@ -179,45 +177,42 @@ fn minimize_text<P: Progress>(
     }
 }
 
-/// Reads a history to its end, and where no journal explains it, writes a part of it that none explains either: a history from the
-/// same start tree that ends with the first return that nothing explains, which is that of the same call. If its reply could be right
-/// in the whole, where the other calls had other replies, it still could; if not, the call could have had the same replies as in the
-/// whole. Of the calls that are left none can go by what is found of the others. No search makes more configurations than the limit,
-/// or few more. For halves of the calls, halves of these and so on no more histories are tried than twice the calls, and then no
-/// more than the square of those that are left.
-pub fn minimize_history<R: Source, W: Sink, P: Progress>(
-    alloc: Global,
-    reader: &mut R,
-    writer: &mut W,
-    dialect: &Dialect,
-    limit: usize,
-    progress: &mut P,
-) -> Result<Minimized, RunFault>
-    requires reads { R.failures reader.old < 2 ^ 64 - 1 }
-    requires writes { W.failures writer.old < 2 ^ 64 - 1 }
+/// Cuts a history down to what shows that no journal explains it, and writes a part of it that none explains either. That is a history from
+/// the same start tree. It ends with the first return that nothing explains, which is that of the same call. If its reply could be right
+/// in the whole, with other replies of the other calls, it still could. If not, the call could have had the same replies as in the whole.
+/// None of the calls that are left can go, by what is found of the others.
+///
+/// The answer says how many calls are left, of how many, and how many histories were tried. While halves of the calls, halves of these
+/// and so on are taken out, these are at most twice the calls. After that they are at most the square of the calls that are left. Nothing is
+/// written of a history that a journal explains, of entries that are none, or if the limit is reached. Who listens hears how many entries have
+/// passed in each search. There is no text only if the input has a fault, or memory runs out.
+#[derive(Drop)]
+pub struct MinimizeHistory {
+    /// What the recorded tree replies: the table by which the history is read.
+    pub dialect: Dialect,
+    /// The most configurations that one search makes, or few more.
+    pub limit: usize,
+}
 
-    // What is answered and written is what is left of the history that was read.
-    ensures minimal { IfOk result (λ told. IfSome (R.remaining reader.old) (λ input. (h : _) × (text : List ℕ) × (history_of dialect.now input ≡ Ok h) × IsMinimizing h.0 h.1 limit told text × Appends (W.contents writer.old) (W.contents writer.new) text)) }
-    ensures end { OnOk result (IsAtEnd (R.remaining reader.new)) }
-    ensures input { (f : ScriptFault) → result ≡ Err (RunFault.Input f) → IfSome (R.remaining reader.old) (λ input. history_of dialect.now input ≡ Err f) }
-    ensures full { result ≢ Err RunFault.Full }
-    ensures under_way { (call : ℕ) → result ≢ Err (RunFault.UnderWay call) }
+impl<P: Progress> Command<P> for MinimizeHistory {
+    ghost use Rattle.fs_linearize_minimal.specs.code.Laws.{minimal_honest};
 
-    // A device is blamed only where it failed in this call; after a failed write a beginning of the text stands, and after every
-    // other error nothing was written.
-    ensures devices { KeepsDevices R.failures W.failures reader.old reader.new writer.old writer.new RunFault.Read RunFault.Write result }
-    ensures beginning { IsErrOf result RunFault.Write → IfSome (R.remaining reader.old) (λ input. IsWrittenOf (history_of dialect.now input) limit (W.contents writer.old) (W.contents writer.new)) }
-{
-    let ended = transform(
-        alloc,
-        reader,
-        writer,
-        |text| -> Result<Made<Minimized>, RunFault>
-            ensures { MakesMinimal (history_of dialect.entry.now text.items) limit result }
-        { minimize_text(alloc, text.as_slice(), dialect, limit, progress) },
-    );
-    match ended {
-        Ok(told) => Ok(told),
-        Err(failure) => Err(between(failure)),
+    type End = Minimized;
+
+    type Fault = RunFault;
+
+    ghost Asks = { λ _. Unit {0} };
+
+    ghost Makes = { λ c input. MakesMinimal (history_of c.dialect input) c.limit };
+
+    fn make(
+        self,
+        alloc: Global,
+        input: Vec<u8>,
+        progress: &mut P,
+    ) -> Result<Made<Minimized>, RunFault> {
+        minimize_text(alloc, input.as_slice(), &self.dialect, self.limit, progress)
     }
+
+    ghost honest = { λ c. minimal_honest c.dialect c.limit };
 }

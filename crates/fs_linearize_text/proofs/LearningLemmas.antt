@@ -1,12 +1,9 @@
 -- What is learned of histories, one after the other.
-use Rattle.std.proofs.Common.{◌≡◌, ⊎_elim, ℕ, ◌+◌, ◌≤◌, ◌<◌, ◌||◌, Bool, true, false, List, [], ◌∷◌, ◌++◌, map, length, take, drop, Option, Some, None, Result, Ok, Err, refl, sym, ap, ◌∙◌, subst}
-use Rattle.std.specs.Prelude.{IfSome}
-use Rattle.std.specs.Io.KnownBytes.{Appends}
+use Rattle.std.proofs.Common.{◌≡◌, ℕ, ◌+◌, ◌≤◌, ◌||◌, Bool, false, List, [], ◌∷◌, ◌++◌, map, length, take, drop, Option, Some, None, Result, Ok, Err, refl, sym, ap, ◌∙◌, subst}
 use Rattle.std.specs.Borrow.{Bor}
-use Rattle.std.specs.List.{flat_map, list_any}
+use Rattle.std.specs.List.{list_any}
 use Rattle.std.proofs.lemmas.List.{map-append, length-take-le, length-map, drop-drop}
 use Rattle.std.proofs.lemmas.Grind.{flat_map-append}
-use Rattle.std.proofs.lemmas.Bool.{cond-false}
 use Rattle.fs_timeline.proofs.TimelineLemmas.{append_nil}
 use Rattle.fs_timeline.proofs.AppendLemmas.{list_any-push}
 use Rattle.fs_calls.specs.Starts.{Start}
@@ -17,12 +14,9 @@ use Rattle.fs_timeline.specs.declared.entry.Entry.{Entry}
 use Rattle.fs_linearize_histories.specs.Histories.{Explains}
 use Rattle.fs_linearize_dialects.specs.Dialects.{widened}
 use Rattle.fs_linearize_histories.proofs.FaultLemmas.{faults_are_first}
-use Rattle.fs_verdict.specs.declared.shell.Made.{Made}
-use Rattle.fs_words.specs.Headers.{is_too_long}
 use Rattle.fs_words.specs.Reading.{◌>>=◌}
 use Rattle.fs_words.specs.declared.fault.ScriptFault.{ScriptFault}
 use Rattle.fs_words.proofs.ReadLemmas.{words_in, with_front, front_twice, no_words}
-use Rattle.fs_verdict.specs.Devices.{IsSameText, WritesBeginning}
 use Rattle.fs_verdict.specs.InputFaults.{IsFaultOf}
 use Rattle.fs_verdict.specs.declared.fault.RunFault.{RunFault}
 use Rattle.fs_linearize_dialects.specs.declared.dialect.Row.{Row}
@@ -33,16 +27,14 @@ use Rattle.fs_linearize_dialects.specs.declared.learning.End.TheVariants as end
 use Rattle.fs_linearize_dialects.proofs.AcceptLemmas.{accepted, among_both}
 use Rattle.fs_linearize_dialects.proofs.TableLemmas.{proposed_are_all}
 use Rattle.fs_linearize_text.specs.Texts.{history_by}
-use Rattle.fs_linearize_text.specs.Many.{pieces_of, behind, histories_by, histories_of}
-use Rattle.fs_linearize_text.specs.Learnings.{lesson_by, lesson, rows_of_lesson, rows_in, overlaps, stays_unexplained, learning_by, learning_of, written_of, AreAccepted, IsLearning}
+use Rattle.fs_linearize_text.specs.Many.{pieces_of, behind, histories_by}
+use Rattle.fs_linearize_text.specs.Learnings.{lesson_by, lesson, rows_of_lesson, rows_in, overlaps, stays_unexplained, learning_by, written_of, AreAccepted, IsLearning}
 use Rattle.fs_linearize_text.specs.code.Each.{IsPieceCut}
-use Rattle.fs_linearize_text.specs.code.Learns.{of_piece, ReadsPiece, AreLearned, MakesLearned, AreLearnedWritten}
-use Rattle.fs_linearize_text.specs.declared.learning.Learning.{Learning}
+use Rattle.fs_linearize_text.specs.code.Learns.{of_piece, ReadsPiece, AreLearned}
 use Rattle.fs_linearize_text.specs.declared.learning.Learned.{Learned}
 use Rattle.fs_linearize_text.specs.declared.learning.Lessons.{Lessons}
 use Rattle.fs_linearize_text.specs.declared.learning.Piece.{Piece}
-use Rattle.fs_linearize_text.proofs.InputLemmas.{known_by}
-use Rattle.fs_linearize_text.proofs.ManyLemmas.{next_fault, refuses_many}
+use Rattle.fs_linearize_text.proofs.ManyLemmas.{next_fault}
 
 abbrev pub Given : Type 0
 Given = Result (List (Start × List Heard)) ScriptFault
@@ -147,15 +139,3 @@ learning_made hs lessons told text learned outcome written = record {
   text_is = written ∙ ap (λ (b : Bool). written_of b lessons.rows.items) learned.overlaps_is ∙ ap (written_of (list_any overlaps hs)) learned.rows;
   accepted = are_accepted (proposed (rows_in hs)) hs (proposed_are_all (rows_in hs));
 }
-
--- ---- the text
-
-abbrev pub IsLearnedOf : Learned → Option (List ℕ) → Option (List ℕ) → Given → Type 0
-IsLearnedOf told old new given = (text : List ℕ) × IsLearning given told text × Appends old new text
-
-pub learned_of : (told : Learned) (old new : Option (List ℕ)) (given : Given) (made : Made Learned) → IsLearning given made.end made.text.items → told ≡ made.end → Appends old new made.text.items → IsLearnedOf told old new given
-learned_of told old new given made is end written = (made.text.items, subst (λ (t : Learned). IsLearning given t made.text.items) (sym end) is, written)
-
-pub written_learned : (r : Option (List ℕ)) (text items : List ℕ) (old new : Option (List ℕ)) (made : Made Learned) → text ≡ items → IfSome r (IsSameText items) → IsLearning (histories_of [] text) made.end made.text.items → WritesBeginning made.text.items old new
-    → IfSome r (λ input. AreLearnedWritten (histories_of [] input) old new)
-written_learned r text items old new made e s is w = known_by (histories_of []) (refuses_many []) r text items (λ given. AreLearnedWritten given old new) e s (made.end, made.text.items, is, w)

@@ -9,22 +9,19 @@ use Rattle.fs_timeline.proofs.TimelineLemmas.{append_nil}
 use Rattle.fs_calls.specs.Starts.{Start}
 use Rattle.fs_linearize_histories.specs.declared.heard.Heard.{Heard}
 use Rattle.fs_linearize.specs.declared.linearizing.Found.{Found}
-use Rattle.std.specs.Prelude.{◌≢◌, ◌||◌, IfSome, is_some, None, Some}
-use Rattle.std.specs.Io.KnownBytes.{Appends}
+use Rattle.std.specs.Prelude.{◌≢◌, ◌||◌, is_some, None, Some}
 use Rattle.std.specs.Str.{bytes_eq}
-use Rattle.std.proofs.lemmas.Bool.{cond-true, cond-false, false_from_ne_true}
+use Rattle.std.proofs.lemmas.Bool.{cond-false, false_from_ne_true}
 use Rattle.std.proofs.lemmas.Slice.Eq.{bytes_eq-Decides}
 use Rattle.fs_names.specs.declared.limits.Limits.{Limits}
 use Rattle.fs_names.specs.declared.limits.Limits.TheVariants.{V1, V2, V3}
 use Rattle.fs_text.specs.Journal.{journal_header}
-use Rattle.fs_verdict.specs.declared.shell.Made.{Made}
 use Rattle.fs_words.specs.Lines.{lines_of}
 use Rattle.fs_words.specs.Headers.{started_header, announced, is_too_long}
 use Rattle.fs_words.proofs.HeaderLemmas.{announced_is}
 use Rattle.fs_words.specs.Reading.{◌>>=◌}
 use Rattle.fs_words.specs.declared.fault.ScriptFault.{ScriptFault}
 use Rattle.fs_words.proofs.ReadLemmas.{words_in, with_front, front_twice, words_from, no_words}
-use Rattle.fs_verdict.specs.Devices.{IsSameText, WritesBeginning}
 use Rattle.fs_verdict.specs.InputFaults.{IsFaultOf}
 use Rattle.fs_verdict.specs.declared.fault.RunFault.{RunFault}
 use Rattle.fs_verdict.specs.declared.fault.RunFault.TheVariants.{Input, Read, Write, OutOfMemory, Full, UnderWay}
@@ -32,10 +29,10 @@ use Rattle.fs_linearize_dialects.specs.declared.dialect.Row.{Row}
 use Rattle.fs_linearize_text.specs.Texts.{history_by}
 use Rattle.fs_linearize_text.specs.Many.{is_header, before_pieces, pieces_of, behind, found_line, histories_by, histories_of}
 use Rattle.fs_linearize_text.specs.Answers.{outcome_of}
-use Rattle.fs_linearize_text.specs.code.Each.{Given, lines_before, IsFurther, IsFoundFor, IsFoundIn, IsPieceCut, AddsPiece, AreFoundFor, AreTold, IsManyOf, AreWrittenOf}
-use Rattle.fs_linearize_text.specs.code.Makes.{IsTooLarge}
-use Rattle.fs_linearize_text.specs.declared.many.Histories.{Histories}
-use Rattle.fs_linearize_text.proofs.InputLemmas.{Refuses, known_by}
+use Rattle.fs_linearize_text.specs.Makes.{Given, IsFoundFor, AreFoundFor}
+use Rattle.fs_linearize_text.specs.code.Each.{lines_before, IsFurther, IsFoundIn, IsPieceCut, AddsPiece, AreTold}
+use Rattle.fs_linearize_text.specs.code.TooLarge.{IsTooLarge}
+use Rattle.fs_linearize_text.specs.code.Laws.{refuses_many}
 use Rattle.fs_linearize_text.specs.declared.answer.Outcome.{Outcome}
 
 -- ---- header lines
@@ -233,25 +230,11 @@ found_in before limit given h f is one = rw is one
 
 -- ---- the text
 
-pub refuses_many : (rows : List Row) → Refuses (histories_of rows)
-refuses_many rows text h = cond-true _ _ _ h
-
 pub many_by : (rows : List Row) (text : List ℕ) (lines : List (List ℕ)) → is_too_long text ≡ false → lines ≡ lines_of text → histories_by rows 0 (pieces_of lines) ≡ histories_of rows text
 many_by rows text lines short is = ap (λ (ls : List (List ℕ)). histories_by rows 0 (pieces_of ls)) is ∙ sym (cond-false _ _ _ short)
 
 pub many_too_large : (rows : List Row) (text : List ℕ) (fault : RunFault) → IsTooLarge text fault → IsFaultOf (histories_of rows text) fault
 many_too_large rows text fault h = ⊎_elim (λ e. rw e tt) (λ p. rw p.1 (refuses_many rows text p.0)) h
-
--- what is made, as it is answered and written
-abbrev pub IsToldOf : ℕ → Histories → Option (List ℕ) → Option (List ℕ) → Given → Type 0
-IsToldOf limit told old new given = (text : List ℕ) × IsManyOf given limit told text × Appends old new text
-
-pub told_of : (limit : ℕ) (told : Histories) (old new : Option (List ℕ)) (given : Given) (made : Made Histories) → IsManyOf given limit made.end made.text.items → told ≡ made.end → Appends old new made.text.items → IsToldOf limit told old new given
-told_of limit told old new given made is end written = (made.text.items, subst (λ (t : Histories). IsManyOf given limit t made.text.items) (sym end) is, written)
-
-pub written_many : (rows : List Row) (r : Option (List ℕ)) (text items : List ℕ) (limit : ℕ) (old new : Option (List ℕ)) (made : Made Histories) → text ≡ items → IfSome r (IsSameText items) → IsManyOf (histories_of rows text) limit made.end made.text.items → WritesBeginning made.text.items old new
-    → IfSome r (λ input. AreWrittenOf (histories_of rows input) limit old new)
-written_many rows r text items limit old new made e s is w = known_by (histories_of rows) (refuses_many rows) r text items (λ given. AreWrittenOf given limit old new) e s (made.end, made.text.items, is, w)
 
 pub rest_all : {A : Type 0} (i : ℕ) (xs : List A) → take (length xs - i) (drop i xs) ≡ drop i xs
 rest_all i xs = ap (λ (n : ℕ). take n (drop i xs)) (sym (length-drop i xs)) ∙ take-length (drop i xs)

@@ -18,8 +18,8 @@ use Rattle.fs_linearize_dialects.specs.declared.dialect.Row.{Row}
 use Rattle.fs_linearize_dialects.specs.Dialects.{widened}
 use Rattle.fs_linearize_text.specs.Texts.{with_table, known, heard_by, with_marks, marks_in, plain_text, history_by, history_of}
 use Rattle.fs_linearize_text.specs.code.Walks.{left_by}
-use Rattle.fs_linearize_text.specs.code.Makes.{IsTooLarge}
-use Rattle.fs_linearize_text.proofs.FoundLemmas.{no_history}
+use Rattle.fs_linearize_text.specs.code.TooLarge.{IsTooLarge}
+use Rattle.fs_linearize_text.specs.code.Laws.{refuses}
 use Rattle.fs_linearize_text.specs.declared.marks.Mark.{Mark}
 
 read_plain : (lines : List (List ℕ)) (plain : List ℕ) (marks : List (Option Mark)) (start : Start) (es : List Entry) (heard : List Heard) → plain ≡ plain_text lines → marks ≡ marks_in lines → journal_of plain ≡ Ok (start, es) → heard ≡ heard_by es marks → with_marks (marks_in lines) (journal_of (plain_text lines)) ≡ Ok (start, heard)
@@ -53,7 +53,7 @@ pub within : (rows : List Row) (text : List ℕ) (lines : List (List ℕ)) → i
 within rows text lines short same = ap (history_by rows) same ∙ sym (cond-false _ _ _ short)
 
 pub too_large : (rows : List Row) (text : List ℕ) (fault : RunFault) → IsTooLarge text fault → IsFaultOf (history_of rows text) fault
-too_large rows text fault h = ⊎_elim (λ e. rw e tt) (λ p. rw p.1 (no_history rows text p.0)) h
+too_large rows text fault h = ⊎_elim (λ e. rw e tt) (λ p. rw p.1 (refuses rows text p.0)) h
 
 -- ---- entries, one by one
 

@@ -1,6 +1,7 @@
 -- What ties the code to the definitions: of it nothing has to be believed.
-pub mod Makes
+pub mod TooLarge
 pub mod Walks
 pub mod Fronts
 pub mod Each
 pub mod Learns
+pub mod Laws

@@ -7,7 +7,7 @@ ghost use Rattle.fs_script.specs.Journals.{journal_text};
 ghost use Rattle.fs_linearize_text.specs.Answers.{fault_word, none_line, fault_line, unknown_line, found_text, outcome_of};
 ghost use Rattle.fs_timeline.specs.Timeline.{begins};
 ghost use Rattle.fs_linearize_text.specs.Many.{found_line};
-ghost use Rattle.fs_linearize_text.specs.code.Makes.{IsAnswered};
+ghost use Rattle.fs_linearize_text.specs.Makes.{IsAnswered};
 
 use crate::possible::with_possible;
 use crate::reason::{reason_of, with_held};

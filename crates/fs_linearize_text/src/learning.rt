@@ -1,9 +1,6 @@
-//! The runner that learns of histories of single threads which table explains them.
+//! The command that learns of histories of single threads which table explains them.
 
-ghost use Rattle.std.specs.Prelude.{◌≡◌, ◌≢◌, ◌-◌, ◌<◌, ◌^◌, ◌++◌, ◌∷◌, ◌||◌, [], ℕ, List, map, Ok, Err, IfOk, OnOk, IfErr, IfSome, IsErrOf};
-ghost use Rattle.std.specs.Io.KnownBytes.{Appends, IsAtEnd};
-ghost use Rattle.fs_words.specs.declared.fault.ScriptFault.{ScriptFault as Fault};
-ghost use Rattle.fs_verdict.specs.Devices.{KeepsDevices};
+ghost use Rattle.std.specs.Prelude.{◌≡◌, ◌++◌, ◌||◌, [], map, Ok, IfOk, OnOk, IfErr};
 ghost use Rattle.fs_verdict.specs.InputFaults.{IsFaultOf};
 ghost use Rattle.fs_linearize_text.specs.Many.{pieces_of, behind, histories_by, histories_of};
 ghost use Rattle.fs_linearize_text.specs.Texts.{history_by};
@@ -11,7 +8,8 @@ ghost use Rattle.fs_linearize_histories.specs.Faults.{history_fault};
 ghost use Rattle.fs_linearize_dialects.specs.Learning.{learned, is_overlap, is_unexplained};
 ghost use Rattle.fs_linearize.specs.Results.{fault_in};
 ghost use Rattle.fs_linearize_text.specs.Learnings.{lesson, learning_by, written_of, IsLearning};
-ghost use Rattle.fs_linearize_text.specs.code.Learns.{of_piece, ReadsPiece, AreLearned, MakesLearned, AreLearnedWritten};
+ghost use Rattle.fs_linearize_text.specs.Makes.{MakesLearned};
+ghost use Rattle.fs_linearize_text.specs.code.Learns.{of_piece, ReadsPiece, AreLearned};
 
 use crate::history::{History, history_by};
 use crate::lines::lines_in;
@@ -23,7 +21,7 @@ use fs_linearize_dialects::{Dialect, End, Lesson, Row, learn, table_text};
 use fs_linearize_histories::{Heard, HistoryFault};
 use fs_seq::SeqTree;
 use fs_text::Addition;
-use fs_verdict::{Made, RunFault, Sink, Source, between, transform};
+use fs_verdict::{Command, Made, RunFault};
 use std::alloc::{AllocError, Global};
 
 /// The most histories of which words say where learning ends.
@@ -353,42 +351,33 @@ fn learn_plain(alloc: Global, text: &[u8]) -> Result<Made<Learned>, RunFault>
     learn_text(alloc, text, &dialect)
 }
 
-/// Reads histories of one thread each to their end, begun by their header lines, and writes a table of errors that explains them: a row
-/// for each return by which the trees differ, where both reply errors. Where one succeeds and the other does not, or both do with
-/// different replies, no row explains it, and nothing more is learned of that history. If calls of a history overlap, nothing is written.
-/// Each history that rows explain to its end is linearizable where it is read by that table. The text is made before its first byte is
-/// written.
-pub fn learn_histories<R: Source, W: Sink>(
-    alloc: Global,
-    reader: &mut R,
-    writer: &mut W,
-) -> Result<Learned, RunFault>
-    requires reads { R.failures reader.old < 2 ^ 64 - 1 }
-    requires writes { W.failures writer.old < 2 ^ 64 - 1 }
+/// Learns from histories of one thread each, begun by their header lines, how another tree replies, and writes a table of errors that
+/// explains them. It has a row for each return by which the trees differ, if both reply errors. If one succeeds and the other does not, or
+/// both do with different replies, no row explains it, and nothing more is learned of that history. If calls of a history overlap,
+/// nothing is written. Each history that rows explain to its end is linearizable if it is read by that table. The answer says what came of
+/// all, and where rows end. Who listens hears nothing. There is no text only if the input has a fault, or memory runs out.
+#[derive(Clone, Copy, Debug)]
+pub struct LearnHistories;
 
-    // What is answered and written is what is learned of the histories that were read.
-    ensures learned { IfOk result (λ told. IfSome (R.remaining reader.old) (λ input. (text : List ℕ) × IsLearning (histories_of [] input) told text × Appends (W.contents writer.old) (W.contents writer.new) text)) }
-    ensures end { OnOk result (IsAtEnd (R.remaining reader.new)) }
-    ensures input { (f : Fault) → result ≡ Err (RunFault.Input f) → IfSome (R.remaining reader.old) (λ input. histories_of [] input ≡ Err f) }
+impl<Listener> Command<Listener> for LearnHistories {
+    ghost use Rattle.fs_linearize_text.specs.code.Laws.{learned_honest};
 
-    ensures full { result ≢ Err RunFault.Full }
-    ensures under_way { (call : ℕ) → result ≢ Err (RunFault.UnderWay call) }
+    type End = Learned;
 
-    // A device is blamed only where it failed in this call; after a failed write a beginning of the text stands, and after every
-    // other error nothing was written.
-    ensures devices { KeepsDevices R.failures W.failures reader.old reader.new writer.old writer.new RunFault.Read RunFault.Write result }
-    ensures beginning { IsErrOf result RunFault.Write → IfSome (R.remaining reader.old) (λ input. AreLearnedWritten (histories_of [] input) (W.contents writer.old) (W.contents writer.new)) }
-{
-    let ended = transform(
-        alloc,
-        reader,
-        writer,
-        |text| -> Result<Made<Learned>, RunFault>
-            ensures { MakesLearned (histories_of [] text.items) result }
-        { learn_plain(alloc, text.as_slice()) },
-    );
-    match ended {
-        Ok(told) => Ok(told),
-        Err(failure) => Err(between(failure)),
+    type Fault = RunFault;
+
+    ghost Asks = { λ _. Unit {0} };
+
+    ghost Makes = { λ _ input. MakesLearned (histories_of [] input) };
+
+    fn make(
+        self,
+        alloc: Global,
+        input: Vec<u8>,
+        _listener: &mut Listener,
+    ) -> Result<Made<Learned>, RunFault> {
+        learn_plain(alloc, input.as_slice())
     }
+
+    ghost honest = { λ _. learned_honest };
 }

@@ -1,9 +1,6 @@
-//! The runner that linearizes a history.
+//! The command that linearizes a history.
 
-ghost use Rattle.std.specs.Prelude.{[], false, map, ◌≡◌, ◌≢◌, ◌+◌, ◌-◌, ◌<◌, ◌^◌, ℕ, List, Ok, Err, IfOk, OnOk, OnErr, IfErr, IfSome, IsErrOf};
-ghost use Rattle.std.specs.Io.KnownBytes.{Appends, IsAtEnd};
-ghost use Rattle.fs_words.specs.declared.fault.ScriptFault.{ScriptFault};
-ghost use Rattle.fs_verdict.specs.Devices.{KeepsDevices};
+ghost use Rattle.std.specs.Prelude.{[], false, map, ◌≡◌, ℕ, Ok, IfOk, IfErr};
 ghost use Rattle.fs_verdict.specs.InputFaults.{IsFaultOf};
 ghost use Rattle.fs_linearize_text.specs.Texts.{history_by, history_of};
 ghost use Rattle.fs_linearize_text.specs.Answers.{outcome_of};
@@ -12,7 +9,7 @@ ghost use Rattle.fs_linearize_histories.specs.Histories.{HasNoOrder};
 ghost use Rattle.fs_linearize.specs.Results.{IsReturnAt};
 ghost use Rattle.fs_linearize_text.specs.code.Fronts.{IsFrontOr};
 ghost use Rattle.fs_linearize_text.specs.Findings.{IsFoundOf};
-ghost use Rattle.fs_linearize_text.specs.code.Makes.{IsWrittenOf, MakesFound};
+ghost use Rattle.fs_linearize_text.specs.Makes.{MakesFound};
 
 use crate::answer::{Linearized, answer_of, found_text};
 use crate::front::front_in;
@@ -20,7 +17,7 @@ use crate::history::{History, history_by};
 use crate::lines::lines_in;
 use fs_linearize::{Found, Progress, Untold, linearize};
 use fs_linearize_dialects::Dialect;
-use fs_verdict::{Made, RunFault, Sink, Source, between, transform};
+use fs_verdict::{Command, Made, RunFault};
 use std::alloc::Global;
 
 /// The most configurations that anyone asks for.
@@ -125,7 +122,7 @@ fn linearize_text<P: Progress>(
     linearize_lines(alloc, &lines, dialect, limit, front, progress)
 }
 
-/// What is found of a history in memory, as `linearize_history` writes it, and what that answers. The history is read where it stands.
+/// What is found of a history in memory, as `LinearizeHistory` makes it. The history is read where it stands.
 pub fn linearize_bytes(
     alloc: Global,
     history: &[u8],
@@ -140,48 +137,49 @@ pub fn linearize_bytes(
     linearize_text(alloc, history, dialect, limit, front, &mut Untold)
 }
 
-/// Reads a history to its end and writes what is found of it, where no more configurations than the limit, or few more, are
-/// made: the journal that explains it from its start tree; or in one line `none` with the place of the first return that
-/// nothing explains, counted from 1, and the number of its call; `fault` with the place of the first entry that cannot come
-/// next, and the kind of its fault; or `unknown` with the place of the entry to which the search had come. The text is made
-/// before its first byte is written. If the front is asked for, a journal stands in the place of `none`: what explains all that is
-/// before that return, and the return; or `none`, where the limit is reached in the search for it. Of `none` and `fault` the answer tells the entry and its call in words.
-pub fn linearize_history<R: Source, W: Sink, P: Progress>(
-    alloc: Global,
-    reader: &mut R,
-    writer: &mut W,
-    dialect: &Dialect,
-    limit: usize,
-    front: bool,
-    progress: &mut P,
-) -> Result<Linearized, RunFault>
-    requires reads { R.failures reader.old < 2 ^ 64 - 1 }
-    requires writes { W.failures writer.old < 2 ^ 64 - 1 }
+/// Finds an order of the calls of a history, and writes the journal that has it, from the history's start tree. If no journal explains
+/// the history, one line is written instead. It is `none` with the place of the first return that nothing explains, counted from 1, and
+/// the number of its call. If the entries are no history, the line is `fault` with the place of the first entry that cannot come next,
+/// and the kind of its fault. If the limit is reached, it is `unknown` with the place of the entry to which the search had come. The
+/// answer says which of these it is, and of `none` and `fault` also the entry and its call in words. Who listens hears how many entries
+/// have passed. There is no text only if the input has a fault, or memory runs out.
+#[derive(Drop)]
+pub struct LinearizeHistory {
+    /// What the recorded tree replies: the table by which the history is read.
+    pub dialect: Dialect,
+    /// The most configurations that are made, or few more.
+    pub limit: usize,
+    /// Whether a journal is written in the place of `none`: what explains all that is before that return, and the return. It stays
+    /// `none` if the limit is reached in the search for that.
+    pub front: bool,
+}
 
-    // What is answered and written is what is found of the history that was read.
-    ensures found { IfOk result (λ told. IfSome (R.remaining reader.old) (λ input. (h : _) × (f : Found) × (text : List ℕ) × (history_of dialect.now input ≡ Ok h) × IsFoundOf h limit front f text × (told.outcome ≡ outcome_of f) × Appends (W.contents writer.old) (W.contents writer.new) text)) }
-    ensures quiet { IfOk result (λ told. told.outcome ≡ outcome.Lawful → told.reason.items ≡ []) }
-    ensures end { OnOk result (IsAtEnd (R.remaining reader.new)) }
-    ensures input { (f : ScriptFault) → result ≡ Err (RunFault.Input f) → IfSome (R.remaining reader.old) (λ input. history_of dialect.now input ≡ Err f) }
+impl<P: Progress> Command<P> for LinearizeHistory {
+    ghost use Rattle.fs_linearize_text.specs.code.Laws.{history_honest};
 
-    ensures full { result ≢ Err RunFault.Full }
-    ensures under_way { (call : ℕ) → result ≢ Err (RunFault.UnderWay call) }
+    type End = Linearized;
 
-    // A device is blamed only where it failed in this call; after a failed write a beginning of the text stands, and after every
-    // other error nothing was written.
-    ensures devices { KeepsDevices R.failures W.failures reader.old reader.new writer.old writer.new RunFault.Read RunFault.Write result }
-    ensures beginning { IsErrOf result RunFault.Write → IfSome (R.remaining reader.old) (λ input. IsWrittenOf (history_of dialect.now input) limit front (W.contents writer.old) (W.contents writer.new)) }
-{
-    let ended = transform(
-        alloc,
-        reader,
-        writer,
-        |text| -> Result<Made<Linearized>, RunFault>
-            ensures { MakesFound (history_of dialect.entry.now text.items) limit front result }
-        { linearize_text(alloc, text.as_slice(), dialect, limit, front, progress) },
-    );
-    match ended {
-        Ok(told) => Ok(told),
-        Err(failure) => Err(between(failure)),
+    type Fault = RunFault;
+
+    ghost Asks = { λ _. Unit {0} };
+
+    ghost Makes = { λ c input. MakesFound (history_of c.dialect input) c.limit c.front };
+
+    fn make(
+        self,
+        alloc: Global,
+        input: Vec<u8>,
+        progress: &mut P,
+    ) -> Result<Made<Linearized>, RunFault> {
+        linearize_text(
+            alloc,
+            input.as_slice(),
+            &self.dialect,
+            self.limit,
+            self.front,
+            progress,
+        )
     }
+
+    ghost honest = { λ c. history_honest c.dialect c.limit c.front };
 }

@@ -3,7 +3,7 @@
 ghost use Rattle.std.specs.Prelude.{◌≡◌, false, map, IfOk, IfErr};
 ghost use Rattle.fs_words.specs.Headers.{is_too_long};
 ghost use Rattle.fs_words.specs.Lines.{lines_of};
-ghost use Rattle.fs_linearize_text.specs.code.Makes.{IsTooLarge};
+ghost use Rattle.fs_linearize_text.specs.code.TooLarge.{IsTooLarge};
 
 use fs_verdict::RunFault;
 use fs_words::headers::is_too_long;

@@ -1,14 +1,12 @@
-//! The runner that linearizes histories one after the other.
+//! The command that linearizes histories one after the other.
 
-ghost use Rattle.std.specs.Prelude.{◌≡◌, ◌≢◌, ◌+◌, ◌-◌, ◌<◌, ◌≤◌, ◌^◌, ◌++◌, ◌∷◌, [], ℕ, List, map, length, take, drop, Ok, Err, IfOk, OnOk, OnErr, IfErr, IfSome, IfNone, IsErrOf};
-ghost use Rattle.std.specs.Io.KnownBytes.{Appends, IsAtEnd};
-ghost use Rattle.fs_words.specs.declared.fault.ScriptFault.{ScriptFault};
-ghost use Rattle.fs_verdict.specs.Devices.{KeepsDevices};
+ghost use Rattle.std.specs.Prelude.{◌≡◌, ◌<◌, ◌≤◌, ◌++◌, ◌∷◌, [], map, length, take, drop, IfOk, OnOk, IfErr};
 ghost use Rattle.fs_verdict.specs.InputFaults.{IsFaultOf};
 ghost use Rattle.fs_linearize_text.specs.Texts.{history_by};
 ghost use Rattle.fs_linearize_text.specs.Many.{is_header, is_same, count_of, counts_line, pieces_of, behind, found_line, histories_by, histories_of};
 ghost use Rattle.fs_linearize_text.specs.Answers.{outcome_of};
-ghost use Rattle.fs_linearize_text.specs.code.Each.{lines_before, IsFurther, IsFoundIn, IsPieceCut, AddsPiece, AreTold, IsManyOf, MakesMany, AreWrittenOf};
+ghost use Rattle.fs_linearize_text.specs.code.Each.{lines_before, IsFurther, IsFoundIn, IsPieceCut, AddsPiece, AreTold};
+ghost use Rattle.fs_linearize_text.specs.Makes.{MakesMany};
 
 use crate::answer::{Outcome, found_line, outcome_of};
 use crate::failing::Notes;
@@ -17,7 +15,7 @@ use crate::lines::lines_in;
 use fs_linearize::{Found, Progress, Untold, linearize};
 use fs_linearize_dialects::Dialect;
 use fs_text::Addition;
-use fs_verdict::{Made, RunFault, Sink, Source, between, transform};
+use fs_verdict::{Command, Made, RunFault};
 use fs_words::ScriptFault;
 use fs_words::headers::started_limits;
 use fs_words::words::is_word;
@@ -253,44 +251,46 @@ fn linearize_text<P: Progress>(
     linearize_lines(alloc, &lines, dialect, limit, failing, progress)
 }
 
-/// Reads histories to their end, each begun by its header line, and writes what is found of them: of each in one line `lawful`
-/// with the number of its calls, or what `linearize_history` writes in one line; and then in one line how many came to each. The
-/// fault of a history has the number of its line in the whole text. The text is made before its first byte is written.
-pub fn linearize_many<R: Source, W: Sink, P: Progress>(
-    alloc: Global,
-    reader: &mut R,
-    writer: &mut W,
-    dialect: &Dialect,
-    limit: usize,
-    failing: bool,
-    progress: &mut P,
-) -> Result<Histories, RunFault>
-    requires reads { R.failures reader.old < 2 ^ 64 - 1 }
-    requires writes { W.failures writer.old < 2 ^ 64 - 1 }
+/// Finds an order of the calls of each of several histories, each begun by its header line, and writes a line for each. It is `lawful`
+/// with the number of its calls, or the line that `LinearizeHistory` writes. A last line counts how many came to each. The answer has
+/// what came of each, in order. Who listens hears how many lines were read. There is no text only if the input has a fault, or memory runs
+/// out. The fault of a history has the number of its line in the whole text.
+#[derive(Drop)]
+pub struct LinearizeMany {
+    /// What the recorded tree replies: the table by which the histories are read.
+    pub dialect: Dialect,
+    /// The most configurations that are made for one of them, or few more.
+    pub limit: usize,
+    /// Whether the answer keeps the texts of those that no journal explains, or that are none.
+    pub keeps_failing: bool,
+}
 
-    // What is answered and written is what is found of each history that was read.
-    ensures found { IfOk result (λ told. IfSome (R.remaining reader.old) (λ input. (text : List ℕ) × IsManyOf (histories_of dialect.now input) limit told text × Appends (W.contents writer.old) (W.contents writer.new) text)) }
-    ensures end { OnOk result (IsAtEnd (R.remaining reader.new)) }
-    ensures input { (f : ScriptFault) → result ≡ Err (RunFault.Input f) → IfSome (R.remaining reader.old) (λ input. histories_of dialect.now input ≡ Err f) }
+impl<P: Progress> Command<P> for LinearizeMany {
+    ghost use Rattle.fs_linearize_text.specs.code.Laws.{many_honest};
 
-    ensures full { result ≢ Err RunFault.Full }
-    ensures under_way { (call : ℕ) → result ≢ Err (RunFault.UnderWay call) }
+    type End = Histories;
 
-    // A device is blamed only where it failed in this call; after a failed write a beginning of the text stands, and after every
-    // other error nothing was written.
-    ensures devices { KeepsDevices R.failures W.failures reader.old reader.new writer.old writer.new RunFault.Read RunFault.Write result }
-    ensures beginning { IsErrOf result RunFault.Write → IfSome (R.remaining reader.old) (λ input. AreWrittenOf (histories_of dialect.now input) limit (W.contents writer.old) (W.contents writer.new)) }
-{
-    let ended = transform(
-        alloc,
-        reader,
-        writer,
-        |text| -> Result<Made<Histories>, RunFault>
-            ensures { MakesMany (histories_of dialect.entry.now text.items) limit result }
-        { linearize_text(alloc, text.as_slice(), dialect, limit, failing, progress) },
-    );
-    match ended {
-        Ok(told) => Ok(told),
-        Err(failure) => Err(between(failure)),
+    type Fault = RunFault;
+
+    ghost Asks = { λ _. Unit {0} };
+
+    ghost Makes = { λ c input. MakesMany (histories_of c.dialect input) c.limit };
+
+    fn make(
+        self,
+        alloc: Global,
+        input: Vec<u8>,
+        progress: &mut P,
+    ) -> Result<Made<Histories>, RunFault> {
+        linearize_text(
+            alloc,
+            input.as_slice(),
+            &self.dialect,
+            self.limit,
+            self.keeps_failing,
+            progress,
+        )
     }
+
+    ghost honest = { λ c. many_honest c.dialect c.limit };
 }

@@ -1,21 +1,22 @@
 -- The first drawn run that has something.
-use Rattle.std.proofs.Common.{◌≡◌, ℕ, ◌+◌, ◌≤◌, ◌<◌, ltb, Bool, true, false, not, List, Option, Some, None, Result, Ok, Err, IfOk, refl, subst, arith}
+use Rattle.std.proofs.Common.{◌≡◌, ℕ, ◌+◌, ◌≤◌, ◌<◌, ltb, Bool, true, false, not, List, Option, Some, None, Result, Ok, Err, IfOk, IfSome, refl, subst, arith}
 use Rattle.std.proofs.Math.Bool.{beq}
 use Rattle.std.proofs.lemmas.Bool.{ltb-true, ltb-false}
 use Rattle.fs_script.specs.declared.script.Script.{Script}
-use Rattle.fs_sched.specs.Origins.{FillsBy}
 use Rattle.fs_sched.specs.Schedules.{schedule_by}
 use Rattle.fs_sched.specs.declared.origin.Origin.{Origin}
+use Rattle.fs_sched.specs.declared.origin.Origin.TheVariants.{Root}
 use Rattle.fs_sched.specs.declared.policy.Campaign.{Campaign}
 use Rattle.fs_sched.specs.declared.policy.Policy.{Policy}
 use Rattle.fs_sched.proofs.Origins.{lacks_run, no_run}
-use Rattle.fs_sched_start.specs.Starts.{ArePlanned, HasTreeFaultAt, SomeFillsAt}
-use Rattle.fs_sched_start.specs.declared.fault.StartFault.{StartFault}
+use Rattle.fs_sched_start.specs.Starts.{ArePlanned}
 use Rattle.fs_sched_start.proofs.Starting.{of_runs}
+use Rattle.fs_trace.specs.Traces.{IsReadBack, IsReadBackOn}
+use Rattle.fs_trace.proofs.Playing.{same_text}
 use Rattle.fs_trace.specs.declared.fault.ScheduleFault.{ScheduleFault}
 use Rattle.fs_trace.specs.declared.fault.ScheduleFault.TheVariants.{Run, TooManyEvents, TooLong}
 use Rattle.fs_sched_find.specs.Faults.{IsFaultOfSearchAt, find_fault_of}
-use Rattle.fs_sched_find.specs.Finds.{DrawnHas, IsFoundOn}
+use Rattle.fs_sched_find.specs.Finds.{DrawnHas, IsFoundOn, IsSearchAt}
 use Rattle.fs_sched_find.specs.code.Mades.{IsNotWrittenOn}
 use Rattle.fs_sched_find.specs.declared.what.Clause.{Clause}
 
@@ -54,11 +55,10 @@ of_found tree by what seed runs input script drawn (Some n) (Run fault) planned 
 of_found tree by what seed runs input script drawn (Some n) TooManyEvents planned first none = (script, drawn, planned, n, first, none)
 of_found tree by what seed runs input script drawn (Some n) TooLong planned first none = (script, drawn, planned, n, first, none)
 
--- from the root alone no number is wanting, and no text of a tree has a fault
-pub root_has_room : (tree : Option (List ℕ)) (by : Policy) (seed runs : ℕ) (input : List ℕ) → tree ≡ None → SomeFillsAt tree by seed runs input → ⊥
-root_has_room None by seed runs input alone (script, drawn, (is, begins, policy), (n, least, below, fills)) = subst (λ (from : Origin). FillsBy from (schedule_by drawn.by n) script) begins fills
-root_has_room (Some text) by seed runs input alone fills = cc
-
-pub root_is_read : (tree : Option (List ℕ)) (input : List ℕ) (fault : StartFault) → tree ≡ None → HasTreeFaultAt tree input fault → ⊥
-root_is_read None input fault alone has = has
-root_is_read (Some text) input fault alone has = cc
+-- from the root alone the script that was found has the text of that run
+pub again_at_root : (tree : Option (List ℕ)) (by : Policy) (what : List (List Clause)) (seed runs : ℕ) (input : List ℕ) (found : Option ℕ) (text : List ℕ) → tree ≡ None → IsSearchAt tree by what seed runs input found text → IfSome found (λ n. IsReadBack (schedule_by by n) input text)
+again_at_root None by what seed runs input None text root search = tt
+again_at_root None by what seed runs input (Some n) text root (script, drawn, planned, names, first, written) =
+    same_text (schedule_by by n) input text script planned.0
+    (subst (λ (p : Policy). IsReadBackOn Root (schedule_by p n) script text) planned.2 (subst (λ (at : Origin). IsReadBackOn at (schedule_by drawn.by n) script text) planned.1 written.1))
+again_at_root (Some given) by what seed runs input found text root search = absurd (cc)

@@ -6,7 +6,6 @@ use Rattle.fs_sched.specs.Origins.{TellsOn}
 use Rattle.fs_sched.specs.Runs.{Stage}
 use Rattle.fs_sched.specs.Schedules.{schedule_by}
 use Rattle.fs_sched.specs.declared.origin.Origin.{Origin}
-use Rattle.fs_sched.specs.declared.origin.Origin.TheVariants.{Root}
 use Rattle.fs_sched.specs.declared.policy.Campaign.{Campaign}
 use Rattle.fs_sched.specs.declared.policy.Policy.{Policy}
 use Rattle.fs_sched.specs.declared.schedule.Schedule.{Schedule}
@@ -20,10 +19,6 @@ use Rattle.fs_sched_find.specs.declared.what.Clause.{Clause}
 -- the machine has a run of a script by a schedule from there, and that has what is said, or has not
 abbrev pub RunHasOn : Origin → Schedule → Script → List (List Clause) → Bool → Type 0
 RunHasOn at schedule script what b = (ms : List Moment) × (last : Stage) × TellsOn at schedule script ms last × Has script.names (lived ms) last.state.graph what b
-
--- the same from the root alone
-abbrev pub RunHas : Schedule → Script → List (List Clause) → Bool → Type 0
-RunHas schedule script what b = RunHasOn Root schedule script what b
 
 -- the same of the run that is drawn from a number
 abbrev pub DrawnHas : Campaign → ℕ → Script → List (List Clause) → Bool → Type 0

@@ -1,3 +1,4 @@
 -- What ties the code to the definitions: of it nothing has to be believed.
 pub mod Answers
 pub mod Mades
+pub mod Laws

@@ -1,32 +1,26 @@
-//! The runner that searches drawn runs of a script.
+//! The search of drawn runs of a script.
 
-ghost use Rattle.std.specs.Prelude.{◌≡◌, ◌≢◌, ◌+◌, ◌-◌, ◌<◌, ◌≤◌, ◌^◌, ℕ, List, Option, Some, None, true, Ok, Err, IfOk, OnOk, OnErr, IfErr, IfSome, IsErrOf};
-ghost use Rattle.std.specs.Io.KnownBytes.{Appends, IsAtEnd};
-ghost use Rattle.fs_words.specs.declared.fault.ScriptFault.{ScriptFault};
+ghost use Rattle.std.specs.Prelude.{◌≡◌, ◌+◌, ◌≤◌, ℕ, None, Ok, IfOk, IfErr, IfSome};
 ghost use Rattle.fs_script.specs.Script.{script_of};
 ghost use Rattle.fs_script.specs.Limits.{call_limit};
-ghost use Rattle.fs_sched.specs.Devices.{KeepsDevices, WritesBeginning};
 ghost use Rattle.fs_sched.specs.Runs.{calls_in};
 ghost use Rattle.fs_sched.specs.Origins.{CanBegin, HasNoRun, LacksRun};
-ghost use Rattle.fs_sched.specs.code.Done.{IsStop, IsStopOn};
-ghost use Rattle.fs_sched_start.specs.Starts.{HasTreeFaultAt, SomeFillsAt};
-ghost use Rattle.fs_sched_start.specs.declared.fault.StartFault.TheVariants as start;
-ghost use Rattle.fs_trace.specs.declared.fault.ScheduleFault.TheVariants as schedule;
-ghost use Rattle.fs_sched_find.specs.Faults.{IsFaultOfSearchAt, LacksRoomAt};
-ghost use Rattle.fs_sched_find.specs.Finds.{DrawnHas, RunHas, RunHasOn, IsFoundOn, IsSearchAt, IsWrittenOn, LacksCall};
-ghost use Rattle.fs_sched_find.specs.code.Mades.{IsNotWrittenOn, MakesFound};
+ghost use Rattle.fs_sched.specs.Schedules.{schedule_by};
+ghost use Rattle.fs_sched.specs.code.Done.{IsStopOn};
+ghost use Rattle.fs_trace.specs.Traces.{IsReadBack};
+ghost use Rattle.fs_sched_find.specs.Faults.{IsFaultOfSearchAt};
+ghost use Rattle.fs_sched_find.specs.Finds.{DrawnHas, RunHasOn, IsFoundOn, IsSearchAt, IsWrittenOn};
+ghost use Rattle.fs_sched_find.specs.code.Mades.{IsNotWrittenOn};
 
 use crate::fault::{FindFault, find_fault};
 use crate::having::has;
 use crate::lives::Lives;
 use crate::what::{Clauses, names_calls};
-use fs_sched::{
-    Campaign, Origin, Policy, RunFault, SEED_LIMIT, Schedule, Witness, between, watch_at,
-};
+use fs_sched::{Campaign, Origin, Policy, RunFault, SEED_LIMIT, Schedule, Witness, watch_at};
 use fs_sched_start::{StartFault, TreeText, planned_in};
 use fs_script::Script;
 use fs_trace::{ScheduleFault, schedule_at};
-use fs_verdict::{Made, Sink, Source, transform};
+use fs_verdict::{Command, Made};
 use std::alloc::Global;
 
 /// The most drawn runs that are searched.
@@ -55,20 +49,6 @@ pub fn run_has_at(
         Ok(has) => Ok(has),
         Err(_) => Err(RunFault::OutOfMemory),
     }
-}
-
-/// The same from the root alone.
-pub fn run_has(
-    alloc: Global,
-    script: &Script,
-    schedule: Schedule,
-    what: &[Clauses],
-) -> Result<bool, RunFault>
-    requires few { calls_in script.now.lists ≤ call_limit script.now.limits }
-    ensures has { IfOk result (RunHas schedule script.now what.now) }
-    ensures fault { IfErr result (IsStop schedule script.now) }
-{
-    run_has_at(alloc, &Origin::Root, script, schedule, what)
 }
 
 /// The same of the run of a campaign that is drawn from a number.
@@ -154,9 +134,9 @@ fn text_of_found(
     }
 }
 
-/// The text of the first run of the script that a text has, and the number from which it is drawn, as `find_seed` finds them; where no
-/// run has what is said, no text and no number. The text of the tree is let go once it is read.
-pub fn found_in<Listener: Witness>(
+/// The text of the first run of the script that a text has, and the number from which it is drawn, as `FindSeed` finds them; if no run
+/// has what is said, no text and no number. The text of the tree is let go once it is read.
+fn found_in<Listener: Witness>(
     alloc: Global,
     tree: TreeText,
     by: Policy,
@@ -169,6 +149,7 @@ pub fn found_in<Listener: Witness>(
     requires seed { seed ≤ SEED_LIMIT }
     requires runs { runs ≤ SEARCH_LIMIT }
     ensures found { IfOk result (λ made. IsSearchAt tree by what.now seed runs text.now made.end made.text.items) }
+    ensures again { tree ≡ None → IfOk result (λ made. IfSome made.end (λ n. IsReadBack (schedule_by by n) text.now made.text.items)) }
     ensures fault { IfErr result (IsFaultOfSearchAt tree by what.now seed runs text.now) }
 {
     let planned = match planned_in(alloc, tree, by, text) {
@@ -197,72 +178,63 @@ pub fn found_in<Listener: Witness>(
     }
 }
 
-/// Reads a script to its end, runs it by the schedules that a policy draws from a number, the next one, and so on, up to the first run
-/// that has what is said, and writes the script with the events of that as its words, as `schedule_script` does. The answer is the
-/// number from which that run is drawn; where no run has it, none, and nothing is written. Where there is the text of a tree, each run
-/// begins at that, which is read as by `fs_sched_start::run_from`. Whoever is told of progress hears of each run.
-pub fn find_seed<R: Source, W: Sink, Listener: Witness>(
-    alloc: Global,
-    tree: TreeText,
-    by: Policy,
-    reader: &mut R,
-    writer: &mut W,
-    what: &[Clauses],
-    seed: u64,
-    runs: u64,
-    witness: &mut Listener,
-) -> Result<Option<u64>, FindFault>
-    requires reads { R.failures reader.old < 2 ^ 64 - 1 }
-    requires writes { W.failures writer.old < 2 ^ 64 - 1 }
-    requires seed { seed ≤ SEED_LIMIT }
-    requires runs { runs ≤ SEARCH_LIMIT }
+/// The search of the runs of a script that a policy draws from a number, the next one, and so on, up to the first that has what is
+/// said. What is made is the script with the events of that run as its words, as `schedule_script` makes it. The answer is the number
+/// from which that run is drawn; if no run has it, none, and no text. If there is the text of a tree, each run begins at that, which is
+/// read as by `fs_sched_start::RunFrom`. A listener hears of each run.
+#[derive(Drop)]
+pub struct FindSeed {
+    /// The text of the tree, if there is one.
+    pub tree: TreeText,
+    /// By which the schedules are drawn.
+    pub by: Policy,
+    /// What the run has: all clauses of one of these.
+    pub what: Vec<Clauses>,
+    /// The number from which the first run is drawn, at most `SEED_LIMIT`.
+    pub seed: u64,
+    /// How many runs, at most `SEARCH_LIMIT`.
+    pub runs: u64,
+}
 
-    // The number is the first whose run has what is said, and what is written is that run's script; or none has it.
-    ensures found { IfOk result (λ found. (text : List ℕ)
-        × IfSome (R.remaining reader.old) (λ input. IsSearchAt tree by what.now seed runs input found text)
-        × Appends (W.contents writer.old) (W.contents writer.new) text) }
-    ensures end { OnOk result (IsAtEnd (R.remaining reader.new)) }
-    ensures input { (f : ScriptFault) → result ≡ Err (FindFault.Start (start.Run (RunFault.Input f)))
-        → IfSome (R.remaining reader.old) (λ input. script_of input ≡ Err f) }
-    ensures tree { (f : ScriptFault) → result ≡ Err (FindFault.Start (start.Tree f))
-        → IfSome (R.remaining reader.old) (λ input. HasTreeFaultAt tree input (start.Tree f)) }
-    ensures no_call { result ≡ Err FindFault.NoCall → IfSome (R.remaining reader.old) (LacksCall what.now) }
+impl<Listener: Witness> Command<Listener> for FindSeed {
+    ghost use Rattle.std.specs.Prelude.{◌≤◌};
+    ghost use Rattle.fs_sched.specs.declared.seeding.TheConstants.{SEED_LIMIT};
+    ghost use Rattle.fs_sched_find.specs.declared.finding.TheConstants.{SEARCH_LIMIT};
+    ghost use Rattle.fs_sched_find.specs.Makes.{MakesFound};
+    ghost use Rattle.fs_sched_find.specs.code.Laws.{find_honest};
 
-    // `Full` comes only where a call of one of the runs begins when all numbers are in use, by the nodes of the tree among them.
-    ensures full { result ≡ Err (FindFault.Start (start.Run RunFault.Full))
-        → IfSome (R.remaining reader.old) (λ input. SomeFillsAt tree by seed runs input) }
-    ensures under_way { (call : ℕ) → result ≢ Err (FindFault.Start (start.Run (RunFault.UnderWay call))) }
+    type End = Option<u64>;
 
-    // So where there is no tree neither of these comes.
-    ensures no_tree { (f : ScriptFault) → tree ≡ None → result ≢ Err (FindFault.Start (start.Tree f)) }
-    ensures never_full { tree ≡ None → result ≢ Err (FindFault.Start (start.Run RunFault.Full)) }
+    type Fault = FindFault;
 
-    // A script has no room for the first run that has what is said: for its events, or for the bytes of these as words.
-    ensures too_many { result ≡ Err FindFault.TooManyEvents
-        → IfSome (R.remaining reader.old) (λ input. LacksRoomAt tree by what.now seed runs input schedule.TooManyEvents) }
-    ensures too_long { result ≡ Err FindFault.TooLong
-        → IfSome (R.remaining reader.old) (λ input. LacksRoomAt tree by what.now seed runs input schedule.TooLong) }
+    ghost Asks = { λ c. (c.seed ≤ SEED_LIMIT) × (c.runs ≤ SEARCH_LIMIT) };
 
-    // A device is blamed only where it failed in this call; after a failed write a beginning of the text stands, and after every
-    // other error nothing was written.
-    ensures devices { KeepsDevices R.failures W.failures reader.old reader.new writer.old writer.new
-        (FindFault.Start (start.Run RunFault.Read)) (FindFault.Start (start.Run RunFault.Write)) result }
-    ensures beginning { IsErrOf result (FindFault.Start (start.Run RunFault.Write)) → (found : Option ℕ) × (text : List ℕ)
-        × IfSome (R.remaining reader.old) (λ input. IsSearchAt tree by what.now seed runs input found text)
-        × WritesBeginning text (W.contents writer.old) (W.contents writer.new) }
-{
-    let ended = transform(
-        alloc,
-        reader,
-        writer,
-        |text| -> Result<Made<Option<u64>>, FindFault>
-            requires seed { seed ≤ SEED_LIMIT }
-            requires runs { runs ≤ SEARCH_LIMIT }
-            ensures { MakesFound tree by what.entry.now seed runs text.items result }
-        { found_in(alloc, tree, by, text.as_slice(), what, seed, runs, witness) },
-    );
-    match ended {
-        Ok(found) => Ok(found),
-        Err(failure) => Err(between(failure)),
+    ghost Makes = { λ c. MakesFound c.tree c.by c.what.items c.seed c.runs };
+
+    fn make(
+        self,
+        alloc: Global,
+        input: Vec<u8>,
+        listener: &mut Listener,
+    ) -> Result<Made<Option<u64>>, FindFault> {
+        let FindSeed {
+            tree,
+            by,
+            what,
+            seed,
+            runs,
+        } = self;
+        found_in(
+            alloc,
+            tree,
+            by,
+            input.as_slice(),
+            what.as_slice(),
+            seed,
+            runs,
+            listener,
+        )
     }
+
+    ghost honest = { λ c. find_honest c.tree c.by c.what.items c.seed c.runs };
 }

@@ -1,7 +1,6 @@
 pub mod AddLemmas
 pub mod RowLemmas
 pub mod OutcomeLemmas
-pub mod Planning
 pub mod ListLemmas
 pub mod AddingLemmas
 pub mod Holding

@@ -5,4 +5,5 @@ pub mod Lines
 pub mod Added
 pub mod Asserts
 pub mod Faults
+pub mod Makes
 pub mod code

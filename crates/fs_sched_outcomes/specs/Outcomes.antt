@@ -1,16 +1,14 @@
 -- The ends of drawn runs of a script.
-use Rattle.std.specs.Prelude.{ℕ, ◌≡◌, ◌+◌, ◌-◌, ◌++◌, min, Bool, not, nat_lt, List, [], ◌∷◌, length, Option, None}
+use Rattle.std.specs.Prelude.{ℕ, ◌≡◌, ◌+◌, ◌-◌, ◌++◌, min, Bool, not, nat_lt, List, [], ◌∷◌, length, Option}
 use Rattle.std.specs.List.{AllByRecursion, count_by, sum_by}
 use Rattle.fs_timeline.specs.declared.entry.Entry.{Entry}
 use Rattle.fs_script.specs.declared.script.Script.{Script}
 use Rattle.fs_sched.specs.Origins.{DrawnOn}
 use Rattle.fs_sched.specs.Runs.{Stage}
 use Rattle.fs_sched.specs.declared.policy.Campaign.{Campaign}
-use Rattle.fs_sched.specs.declared.policy.Policy.{Policy}
 use Rattle.fs_sched_seen.specs.Meetings.{pairs_in}
 use Rattle.fs_sched_seen.specs.declared.meetings.Pairs.{Pairs}
 use Rattle.fs_sched_seen.specs.declared.seen.Seen.{Seen}
-use Rattle.fs_sched_start.specs.Starts.{SomeFillsAt}
 use Rattle.fs_sched_outcomes.specs.Ends.{EndValue, IsEndOf, places_of}
 use Rattle.fs_sched_outcomes.specs.Lines.{labels_of, rows_text, seen_text}
 use Rattle.fs_sched_outcomes.specs.Sums.{AddsUp, AreInOrder, times_of}
@@ -70,7 +68,3 @@ IsSeen drawn script seed runs rows seen =
 abbrev pub AreLinesOn : Campaign → Script → ℕ → ℕ → Form → Seen → List ℕ → Type 0
 AreLinesOn drawn script seed runs form seen text =
     (rows : List Row) × AreOutcomes drawn script seed runs rows × IsSeen drawn script seed runs rows seen × (text ≡ rows_text form (labels_of script.names (places_of script.lists)) rows ++ seen_text form seen)
-
--- from the root alone no call of these runs begins when all numbers are in use
-abbrev pub NoneFillsAtRoot : Type 0
-NoneFillsAtRoot = (by : Policy) (seed runs : ℕ) (input : List ℕ) → SomeFillsAt None by seed runs input → ⊥

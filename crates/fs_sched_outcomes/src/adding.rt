@@ -1,23 +1,22 @@
-//! The runner that adds up lines of ends.
+//! Lines of ends that are added up.
 
-ghost use Rattle.std.specs.Prelude.{◌≡◌, ◌≢◌, ◌<◌, ◌≤◌, ◌+◌, ◌-◌, ◌^◌, ℕ, List, length, map, IfOk, OnOk, OnErr, IfErr, IfSome, IsErrOf, Err, false};
-ghost use Rattle.std.specs.Io.KnownBytes.{Appends, IsAtEnd};
+ghost use Rattle.std.specs.Prelude.{◌≡◌, ◌≤◌, length, map, IfOk, OnOk, IfErr, false};
 ghost use Rattle.std.specs.List.{sum_by};
 ghost use Rattle.fs_words.specs.Headers.{is_too_long};
 ghost use Rattle.fs_words.specs.Lines.{lines_of};
-ghost use Rattle.fs_sched.specs.Devices.{KeepsDevices, WritesBeginning};
-ghost use Rattle.fs_sched_outcomes.specs.Added.{AreAdded};
+ghost use Rattle.fs_sched_outcomes.specs.Faults.{IsBadLine};
 ghost use Rattle.fs_sched_outcomes.specs.Lines.{added_line};
+ghost use Rattle.fs_sched_outcomes.specs.Makes.{MakesSum};
 ghost use Rattle.fs_sched_outcomes.specs.Sums.{times_of};
 ghost use Rattle.fs_sched_outcomes.specs.code.Adding.{AreKept};
-ghost use Rattle.fs_sched_outcomes.specs.code.Mades.{AddsLine, AreOrdered, HasLines, IsBadLine, MakesSum};
+ghost use Rattle.fs_sched_outcomes.specs.code.Mades.{AddsLine, AreOrdered, HasLines};
 
 use crate::ends::End;
 use crate::lines::{Form, added_line, added_text};
 use crate::rows::{Row, Rows};
 use fs_names::blocks::place_from;
-use fs_sched::{RunFault, between};
-use fs_verdict::{Made, Sink, Source, transform};
+use fs_sched::RunFault;
+use fs_verdict::{Command, Made};
 use fs_words::headers::is_too_long;
 use fs_words::lines::{cut_line, cut_words};
 use fs_words::words::{is_word, number_of};
@@ -255,38 +254,34 @@ fn sum_in(alloc: Global, text: &[u8], form: Form) -> Result<Made<()>, RunFault>
     }
 }
 
-/// Reads lines to their end that `count_outcomes` wrote with the replies of all calls, of runs of one script, and writes those of
-/// rows that add them up. Two ends are one where their replies and the digits that stand for their trees are.
-pub fn add_outcomes<R: Source, W: Sink>(
-    alloc: Global,
-    reader: &mut R,
-    writer: &mut W,
-    form: Form,
-) -> Result<(), RunFault>
-    requires reads { R.failures reader.old < 2 ^ 64 - 1 }
-    requires writes { W.failures writer.old < 2 ^ 64 - 1 }
+/// The sum of lines that `CountOutcomes` made with the replies of all calls, of runs of one script. What is made is the lines of rows that
+/// add them up. Two ends are one if their replies and the digits that stand for their trees are.
+#[derive(Clone, Copy, Debug)]
+pub struct AddOutcomes {
+    /// What the lines have.
+    pub form: Form,
+}
 
-    // Each line is one of a row, byte for byte, and what is written has a line for each end of these, with the sum of how often they
-    // came and the least of their numbers.
-    ensures added { OnOk result ((text : List ℕ) × IfSome (R.remaining reader.old) (λ input. AreAdded form input text) × Appends (W.contents writer.old) (W.contents writer.new) text) }
+impl<Listener> Command<Listener> for AddOutcomes {
+    ghost use Rattle.fs_sched_outcomes.specs.Makes.{MakesSum};
+    ghost use Rattle.fs_sched_outcomes.specs.code.Laws.{add_honest};
 
-    // A device is blamed only where it failed in this call; after a failed write a beginning of the lines stands, and after every
-    // other error nothing was written.
-    ensures devices { KeepsDevices R.failures W.failures reader.old reader.new writer.old writer.new RunFault.Read RunFault.Write result }
-    ensures beginning { IsErrOf result RunFault.Write → (text : List ℕ) × IfSome (R.remaining reader.old) (λ input. AreAdded form input text) × WritesBeginning text (W.contents writer.old) (W.contents writer.new) }
-    ensures full { result ≢ Err RunFault.Full }
-    ensures under_way { (call : ℕ) → result ≢ Err (RunFault.UnderWay call) }
-{
-    let ended = transform(
-        alloc,
-        reader,
-        writer,
-        |text| -> Result<Made<()>, RunFault>
-            ensures { MakesSum form text.items result }
-        { sum_in(alloc, text.as_slice(), form) },
-    );
-    match ended {
-        Ok(done) => Ok(done),
-        Err(failure) => Err(between(failure)),
+    type End = ();
+
+    type Fault = RunFault;
+
+    ghost Asks = { λ _. Unit {0} };
+
+    ghost Makes = { λ c. MakesSum c.form };
+
+    fn make(
+        self,
+        alloc: Global,
+        input: Vec<u8>,
+        _listener: &mut Listener,
+    ) -> Result<Made<()>, RunFault> {
+        sum_in(alloc, input.as_slice(), self.form)
     }
+
+    ghost honest = { λ c. add_honest c.form };
 }

@@ -1,31 +1,24 @@
-//! The runner that counts the ends of drawn runs, and decides what is asserted of them.
+//! Drawn runs of which the ends are counted, and what is asserted of them decided.
 
-ghost use Rattle.std.specs.Prelude.{◌≡◌, ◌≢◌, ◌++◌, ◌∷◌, ◌-◌, [], ◌<◌, ◌≤◌, ◌^◌, ℕ, List, Option, Ok, Err, IfOk, OnOk, OnErr, IfErr, IfSome, IsErrOf};
-ghost use Rattle.std.specs.Io.KnownBytes.{Appends, IsAtEnd};
-ghost use Rattle.fs_words.specs.declared.fault.ScriptFault.{ScriptFault};
-ghost use Rattle.fs_script.specs.Script.{script_of};
+ghost use Rattle.std.specs.Prelude.{◌≡◌, ◌++◌, ◌∷◌, [], ◌≤◌, IfOk, OnOk, IfErr};
 ghost use Rattle.fs_script.specs.Limits.{call_limit};
-ghost use Rattle.fs_sched.specs.Devices.{KeepsDevices, WritesBeginning};
 ghost use Rattle.fs_sched.specs.Origins.{CanBegin, LacksRun};
 ghost use Rattle.fs_sched.specs.Runs.{calls_in};
 ghost use Rattle.fs_sched.specs.declared.seeding.TheConstants.{SEED_LIMIT};
-ghost use Rattle.fs_sched_start.specs.Starts.{HasTreeFaultAt, SomeFillsAt};
-ghost use Rattle.fs_sched_start.specs.declared.fault.StartFault.TheVariants as start;
 ghost use Rattle.fs_sched_outcomes.specs.declared.running.TheConstants.{OUTCOME_LIMIT};
-ghost use Rattle.fs_sched_outcomes.specs.Asserts.{name_calls, AreAssertedAt, AreDecidedOn, IsDecidedOn, IsSeenAt, LacksCalls};
-ghost use Rattle.fs_sched_outcomes.specs.code.Assertings.{MakesCounted};
-ghost use Rattle.fs_sched_seen.specs.declared.seen.Seen.{Seen};
+ghost use Rattle.fs_sched_outcomes.specs.Asserts.{name_calls, AreDecidedOn, IsDecidedOn};
+ghost use Rattle.fs_sched_outcomes.specs.Makes.{MakesCounted};
 
 use crate::assertion::Assertion;
 use crate::fault::OutcomesFault;
 use crate::lines::Form;
 use crate::running::outcomes_of;
-use fs_sched::{Campaign, Policy, RunFault, Witness, between};
+use fs_sched::{Campaign, Policy, RunFault, Witness};
 use fs_sched_find::{first_seed, names_calls};
 use fs_sched_seen::Seen;
 use fs_sched_start::{StartFault, TreeText, planned_in};
 use fs_script::Script;
-use fs_verdict::{Made, Sink, Source, transform};
+use fs_verdict::{Command, Made};
 use std::alloc::Global;
 
 /// Whether a script has each call that assertions name.
@@ -157,68 +150,57 @@ fn counted_in<Listener: Witness>(
     }
 }
 
-/// Reads a script to its end, runs it so many times, with the schedules that a policy draws from a number, the next one, and so on, and
-/// writes a line for each different end, the most frequent first. If there is the text of a tree, each run begins at that, which is read
-/// by the limits of the script, as `fs_sched_start::run_from` does. Each assertion is decided by these runs. A listener for progress
-/// hears of each run, once for each assertion and once for the lines.
-pub fn count_outcomes<R: Source, W: Sink, Listener: Witness>(
-    alloc: Global,
-    tree: TreeText,
-    by: Policy,
-    reader: &mut R,
-    writer: &mut W,
-    asserts: &[Assertion<'_>],
-    seed: u64,
-    runs: u64,
-    form: Form,
-    witness: &mut Listener,
-) -> Result<Counted, OutcomesFault>
-    requires reads { R.failures reader.old < 2 ^ 64 - 1 }
-    requires writes { W.failures writer.old < 2 ^ 64 - 1 }
-    requires seed { seed ≤ SEED_LIMIT }
-    requires runs { runs ≤ OUTCOME_LIMIT }
+/// So many runs of a script, with the schedules that a policy draws from a number, the next one, and so on, counted by their ends: what
+/// is made is a line for each different end, the most frequent first. If there is the text of a tree, each run begins at that, which is
+/// read by the limits of the script, as `fs_sched_start::RunFrom` reads it. Each assertion is decided by these runs. A listener hears of
+/// each run, once for each assertion and once for the lines.
+#[derive(Drop)]
+pub struct CountOutcomes<'a> {
+    /// The text of the tree, if there is one.
+    pub tree: TreeText,
+    /// By which the schedules are drawn.
+    pub by: Policy,
+    /// What is asserted of the runs.
+    pub asserts: &'a [Assertion<'a>],
+    /// The number from which the first is drawn, at most `SEED_LIMIT`.
+    pub seed: u64,
+    /// How many runs, at most `OUTCOME_LIMIT`.
+    pub runs: u64,
+    /// What the lines have.
+    pub form: Form,
+}
 
-    // Each number is that of the first run which decides its assertion, or no run does. What is written has a line for each end of all
-    // these runs: each line is of the run of its number, the counts add up to the number of runs, each run's end has a line, no end has
-    // two, and they are in order. As objects of JSON, the last one says how much was seen.
-    ensures asserted { IfOk result (λ counted. (text : List ℕ)
-        × IfSome (R.remaining reader.old) (λ input. AreAssertedAt asserts.now tree by seed runs form input counted.decided.items counted.seen text)
-        × Appends (W.contents writer.old) (W.contents writer.new) text) }
-    // How much was seen is counted by those lines, and by the timelines of the runs: for how many pairs of calls both were pending at
-    // once in one of them.
-    ensures seen { IfOk result (λ counted. IfSome (R.remaining reader.old) (λ input. IsSeenAt tree by seed runs input counted.seen)) }
-    ensures end { OnOk result (IsAtEnd (R.remaining reader.new)) }
-    ensures input { (f : ScriptFault) → result ≡ Err (OutcomesFault.Start (start.Run (RunFault.Input f)))
-        → IfSome (R.remaining reader.old) (λ input. script_of input ≡ Err f) }
-    ensures tree { (f : ScriptFault) → result ≡ Err (OutcomesFault.Start (start.Tree f))
-        → IfSome (R.remaining reader.old) (λ input. HasTreeFaultAt tree input (start.Tree f)) }
-    ensures no_call { result ≡ Err OutcomesFault.NoCall → IfSome (R.remaining reader.old) (LacksCalls asserts.now) }
+impl<'a, Listener: Witness> Command<Listener> for CountOutcomes<'a> {
+    ghost use Rattle.std.specs.Prelude.{◌≤◌};
+    ghost use Rattle.fs_sched.specs.declared.seeding.TheConstants.{SEED_LIMIT};
+    ghost use Rattle.fs_sched_outcomes.specs.declared.running.TheConstants.{OUTCOME_LIMIT};
+    ghost use Rattle.fs_sched_outcomes.specs.Makes.{MakesCounted};
+    ghost use Rattle.fs_sched_outcomes.specs.code.Laws.{count_honest};
 
-    // `Full` comes only where a call of one of the runs begins when all numbers are in use, by the nodes of the tree among them; and so
-    // from the root alone never.
-    ensures full { result ≡ Err (OutcomesFault.Start (start.Run RunFault.Full)) → IfSome (R.remaining reader.old) (λ input. SomeFillsAt tree by seed runs input) }
-    ensures under_way { (call : ℕ) → result ≢ Err (OutcomesFault.Start (start.Run (RunFault.UnderWay call))) }
+    type End = Counted;
 
-    // A device is blamed only where it failed in this call; after a failed write a beginning of the lines stands, and after every
-    // other error nothing was written.
-    ensures devices { KeepsDevices R.failures W.failures reader.old reader.new writer.old writer.new
-        (OutcomesFault.Start (start.Run RunFault.Read)) (OutcomesFault.Start (start.Run RunFault.Write)) result }
-    ensures beginning { IsErrOf result (OutcomesFault.Start (start.Run RunFault.Write)) → (decided : List (Option ℕ)) × (seen : Seen) × (text : List ℕ)
-        × IfSome (R.remaining reader.old) (λ input. AreAssertedAt asserts.now tree by seed runs form input decided seen text)
-        × WritesBeginning text (W.contents writer.old) (W.contents writer.new) }
-{
-    let ended = transform(
-        alloc,
-        reader,
-        writer,
-        |text| -> Result<Made<Counted>, OutcomesFault>
-            requires seed { seed ≤ SEED_LIMIT }
-            requires runs { runs ≤ OUTCOME_LIMIT }
-            ensures { MakesCounted asserts.entry.now tree by seed runs form text.items result }
-        { counted_in(alloc, tree, by, text, asserts, seed, runs, form, witness) },
-    );
-    match ended {
-        Ok(counted) => Ok(counted),
-        Err(failure) => Err(between(failure)),
+    type Fault = OutcomesFault;
+
+    ghost Asks = { λ c. (c.seed ≤ SEED_LIMIT) × (c.runs ≤ OUTCOME_LIMIT) };
+
+    ghost Makes = { λ c. MakesCounted c.asserts.now c.tree c.by c.seed c.runs c.form };
+
+    fn make(
+        self,
+        alloc: Global,
+        input: Vec<u8>,
+        listener: &mut Listener,
+    ) -> Result<Made<Counted>, OutcomesFault> {
+        let CountOutcomes {
+            tree,
+            by,
+            asserts,
+            seed,
+            runs,
+            form,
+        } = self;
+        counted_in(alloc, tree, by, input, asserts, seed, runs, form, listener)
     }
+
+    ghost honest = { λ c. count_honest c.asserts.now c.tree c.by c.seed c.runs c.form };
 }

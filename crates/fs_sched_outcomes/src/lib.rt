@@ -1,18 +1,17 @@
 //! What can happen: the ends of drawn runs, each once, and how often it came; and what is asserted of all of them.
 //!
-//! `count_outcomes` reads a script to its end, and runs it from the root alone or from a tree. A policy draws the schedules from a number,
-//! the next one, and so on. It writes a line for each different end, the most frequent first. An end is the reply of each call
-//! and the whole tree. The whole text is made before its first byte is written. `Read` or `Write` is answered only if the reader or the
-//! writer failed during this call. `add_outcomes` adds up lines that were written of pieces of a range.
+//! `CountOutcomes` runs a script from the root alone or from a tree. A policy draws the schedules from a number, the next one, and so on.
+//! It makes a line for each different end, the most frequent first. An end is the reply of each call and the whole tree. `AddOutcomes`
+//! adds up lines that were made of pieces of a range. Both are asked through `fs_verdict::perform`.
 //!
 //! It also decides each `Assertion` by these runs, and answers for each the first run that decides it: one that breaks `never` or
 //! `always`, or one that `sometimes` asks for. `read_assertion` reads an assertion from words.
 //!
 //! How much was seen comes with it, as `Seen`; `push_seen` writes that in words.
 //!
-//! The definitions are in `specs/`. `Ends` says what the end of a run is, and `Sums` and `Added` how rows add up others. `Outcomes` has
-//! the rows of drawn runs, and `Lines` how rows are written. `Asserts` says what an assertion says of runs; the module `laws` has what
-//! these definitions say together. `specs/code/` ties the code to them, and changes no meaning.
+//! The definitions are in `specs/`. `Makes` has what is made, and promised. `Ends` says what the end of a run is, and `Sums` and `Added`
+//! how rows add up others. `Outcomes` has the rows of drawn runs, and `Lines` how rows are written. `Asserts` says what an assertion says of
+//! runs; the module `laws` has what these definitions say together. `specs/code/` ties the code to them, and changes no meaning.
 #![tactic(auto)]
 
 mod adding;
@@ -26,8 +25,8 @@ mod objects;
 mod rows;
 mod running;
 
-pub use adding::add_outcomes;
-pub use asserting::{Counted, count_outcomes};
+pub use adding::AddOutcomes;
+pub use asserting::{CountOutcomes, Counted};
 pub use assertion::{Assertion, Quantifier, all_hold, read_assertion};
 pub use ends::End;
 pub use fault::OutcomesFault;

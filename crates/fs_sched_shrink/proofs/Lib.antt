@@ -5,3 +5,4 @@ mod Lines
 mod Counting
 mod Starting
 mod Going
+mod Reading

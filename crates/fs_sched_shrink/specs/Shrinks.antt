@@ -3,7 +3,6 @@ use Rattle.std.specs.Prelude.{ℕ, ◌≡◌, ◌<◌, ◌⊎◌, Bool, true, fa
 use Rattle.fs_script.specs.Limits.{calls_in}
 use Rattle.fs_script.specs.Script.{script_of}
 use Rattle.fs_script.specs.declared.script.Script.{Script}
-use Rattle.fs_calls.specs.Starts.{Start}
 use Rattle.fs_sched.specs.Origins.{StopsAtSome}
 use Rattle.fs_sched.specs.Runs.{StopsBy}
 use Rattle.fs_sched.specs.declared.origin.Origin.{Origin}
@@ -11,7 +10,7 @@ use Rattle.fs_sched.specs.declared.origin.Origin.TheVariants.{Root, Tree}
 use Rattle.fs_sched.specs.declared.schedule.Schedule.TheVariants.{Given}
 use Rattle.fs_verdict.specs.declared.fault.RunFault.{RunFault}
 use Rattle.fs_verdict.specs.declared.fault.RunFault.TheVariants.{UnderWay}
-use Rattle.fs_sched_start.specs.Starts.{AreGiven}
+use Rattle.fs_sched_start.specs.Starts.{BeginsAt}
 use Rattle.fs_sched_find.specs.Finds.{RunHasOn}
 use Rattle.fs_sched_find.specs.What.{names_calls}
 use Rattle.fs_sched_find.specs.declared.what.Clause.{Clause}
@@ -60,14 +59,6 @@ abbrev pub IsShrinkingOn : Origin → Script → List (List Clause) → Option S
 IsShrinkingOn from script what None text = RunHasOn from Given script what false × (text ≡ [])
 IsShrinkingOn from script what (Some shrunk) text = (kept : List Bool) × IsMadeOn from script what kept shrunk text
 
--- the same from the root alone
-abbrev pub IsShrinking : Script → List (List Clause) → Option Shrunk → List ℕ → Type 0
-IsShrinking script what end text = IsShrinkingOn Root script what end text
-
--- the same of the script that an input has
-abbrev pub IsShrinkingOf : List (List Clause) → List ℕ → Option Shrunk → List ℕ → Type 0
-IsShrinkingOf what input end text = (script : Script) × (script_of input ≡ Ok script) × (names_calls script what ≡ true) × IsShrinking script what end text
-
--- the same from the tree that a text has by the limits of that script
-abbrev pub IsShrinkingAt : List (List Clause) → List ℕ → List ℕ → Option Shrunk → List ℕ → Type 0
-IsShrinkingAt what tree input end text = (script : Script) × (start : Start) × AreGiven tree input script start × (names_calls script what ≡ true) × IsShrinkingOn (Tree start) script what end text
+-- the same of the script that an input has, whose runs begin at the tree that a text has by the limits of the script, or at the root alone if there is none
+abbrev pub IsShrinkingAt : Option (List ℕ) → List (List Clause) → List ℕ → Option Shrunk → List ℕ → Type 0
+IsShrinkingAt tree what input end text = (script : Script) × (from : Origin) × (script_of input ≡ Ok script) × BeginsAt script.limits tree from × (names_calls script what ≡ true) × IsShrinkingOn from script what end text

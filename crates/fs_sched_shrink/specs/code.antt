@@ -2,3 +2,4 @@
 pub mod Thinning
 pub mod Passes
 pub mod Mades
+pub mod Laws

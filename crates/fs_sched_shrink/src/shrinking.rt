@@ -1,23 +1,18 @@
-//! The runner that shrinks a script.
+//! A script that is shrunk.
 
-ghost use Rattle.std.specs.Prelude.{◌≡◌, ◌≢◌, ◌+◌, ◌-◌, ◌<◌, ◌≤◌, ◌^◌, ◌++◌, ℕ, List, Option, true, false, replicate, length, Ok, Err, IfOk, OnOk, OnErr, IfErr, IfSome, IsErrOf};
-ghost use Rattle.std.specs.Io.KnownBytes.{Appends, IsAtEnd};
-ghost use Rattle.fs_words.specs.declared.fault.ScriptFault.{ScriptFault};
+ghost use Rattle.std.specs.Prelude.{◌≡◌, ◌+◌, ◌≤◌, ◌++◌, ℕ, true, false, replicate, length, Ok, IfOk, OnOk, IfErr};
 ghost use Rattle.fs_script.specs.Script.{script_of};
 ghost use Rattle.fs_script.specs.Limits.{call_limit, calls_in};
 ghost use Rattle.fs_script.specs.declared.limits.TheConstants.{CALL_LIMIT};
-ghost use Rattle.fs_sched.specs.Devices.{KeepsDevices, WritesBeginning};
 ghost use Rattle.fs_sched.specs.Origins.{CanBegin};
-ghost use Rattle.fs_sched.specs.Runs.{ReachesStop};
 ghost use Rattle.fs_sched.specs.declared.origin.Origin.{Origin};
-ghost use Rattle.fs_sched.specs.declared.schedule.Schedule.TheVariants.{Given};
-ghost use Rattle.fs_sched_start.specs.declared.fault.StartFault.TheVariants as start;
-ghost use Rattle.fs_sched_find.specs.Finds.{LacksCall, RunHasOn};
+ghost use Rattle.fs_sched_find.specs.Finds.{RunHasOn};
 ghost use Rattle.fs_sched_find.specs.What.{names_calls};
+ghost use Rattle.fs_sched_shrink.specs.Makes.{MakesShrinking};
 ghost use Rattle.fs_sched_shrink.specs.Moves.{moved};
 ghost use Rattle.fs_sched_shrink.specs.Telling.{what_text};
-ghost use Rattle.fs_sched_shrink.specs.Shrinks.{IsShrinkingOf, IsShrinkingOn, IsShrunkOn, IsSmallestOn};
-ghost use Rattle.fs_sched_shrink.specs.code.Mades.{IsUnshrunk, MakesShrinking};
+ghost use Rattle.fs_sched_shrink.specs.Shrinks.{IsShrinkingOn, IsShrunkOn, IsSmallestOn};
+ghost use Rattle.fs_sched_shrink.specs.code.Mades.{IsUnshrunk};
 ghost use Rattle.fs_sched_shrink.specs.declared.limits.TheConstants.{TRIAL_LIMIT};
 
 use crate::cutting::{cut_by_halves, cut_ones};
@@ -26,11 +21,11 @@ use crate::moving::{calls_before, moved};
 use crate::room::{NoRoom, Unshrunk};
 use crate::telling::what_text;
 use crate::trying::{script_with, text_of};
-use fs_sched::{Origin, RunFault, Schedule, between, script_in};
+use fs_sched::{Origin, Policy, Schedule};
 use fs_sched_find::{Clauses, names_calls, run_has_at};
-use fs_sched_start::StartFault;
+use fs_sched_start::{Planned, StartFault, TreeText, planned_in};
 use fs_script::{CallLists, Script};
-use fs_verdict::{Made, Sink, Source, transform};
+use fs_verdict::{Command, Made};
 use std::alloc::{AllocError, Global};
 
 /// What was made of a script.
@@ -173,7 +168,7 @@ fn smallest(
 }
 
 /// What is made of a script that was read, whose runs begin at a tree, or at the root alone.
-pub(crate) fn shrink(
+fn shrink(
     alloc: Global,
     from: &Origin,
     text: &[u8],
@@ -200,71 +195,65 @@ pub(crate) fn shrink(
     }
 }
 
-/// What is made of the script that a text has, whose runs begin at the root alone.
+/// What is made of the script that a text has. The text of the tree is let go once it is read, and no schedule is drawn.
 fn shrunk_in(
     alloc: Global,
+    tree: TreeText,
     text: &[u8],
     what: &[Clauses],
 ) -> Result<Made<Option<Shrunk>>, ShrinkFault>
-    ensures { MakesShrinking what.now text.now result }
+    ensures { MakesShrinking tree what.now text.now result }
 {
-    let script = script_in(alloc, text)?;
+    let planned = match planned_in(alloc, tree, Policy::Uniform, text) {
+        Ok(planned) => planned,
+        Err(fault) => return Err(ShrinkFault::Start(fault)),
+    };
+    let Planned { script, campaign } = planned;
     if !names_calls(&script, what) {
         return Err(ShrinkFault::NoCall);
     }
-    match shrink(alloc, &Origin::Root, text, &script, what) {
+    match shrink(alloc, &campaign.from, text, &script, what) {
         Ok(made) => Ok(made),
         Err(Unshrunk::Run(fault)) => Err(ShrinkFault::Start(StartFault::Run(fault))),
         Err(Unshrunk::TooLong) => Err(ShrinkFault::TooLong),
     }
 }
 
-/// Reads a script to its end, and where its run by its own words has what is said, writes the script with as few of its calls and
-/// words as still has it: of those that are left no word can go, and no call but those that are named. It tries many at a time, and
-/// then one after the other, by `TRIAL_LIMIT` runs at most. The calls that are named go by their new places. Where the run
-/// has not what is said, nothing is written, and the answer is none.
-pub fn shrink_script<R: Source, W: Sink>(
-    alloc: Global,
-    reader: &mut R,
-    writer: &mut W,
-    what: &[Clauses],
-) -> Result<Option<Shrunk>, ShrinkFault>
-    requires reads { R.failures reader.old < 2 ^ 64 - 1 }
-    requires writes { W.failures writer.old < 2 ^ 64 - 1 }
+/// A script whose run by its own words has what is said, with as few of its calls and words as still has it: of those that are left no
+/// word can go, and no call but those that are named. It tries many at a time, and then one after the other, by `TRIAL_LIMIT` runs at
+/// most. The calls that are named go by their new places. If the run has not what is said, there is no text, and the answer is none.
+///
+/// Runs begin at the root alone, or if there is the text of a tree, at that, which is read as by `fs_sched_start::RunFrom`. A try does
+/// not count if its run stops: at a checkpoint while calls are pending, or at a call that begins when all node numbers are in use.
+#[derive(Drop)]
+pub struct ShrinkScript {
+    /// The text of the tree, if there is one.
+    pub tree: TreeText,
+    /// What the run has: all clauses of one of these.
+    pub what: Vec<Clauses>,
+}
 
-    // What is written is read back as the script with those of its calls and words that stay, and its run has what is said.
-    ensures shrunk { IfOk result (λ shrunk. (text : List ℕ)
-        × IfSome (R.remaining reader.old) (λ input. IsShrinkingOf what.now input shrunk text)
-        × Appends (W.contents writer.old) (W.contents writer.new) text) }
-    ensures end { OnOk result (IsAtEnd (R.remaining reader.new)) }
-    ensures input { (f : ScriptFault) → result ≡ Err (ShrinkFault.Start (start.Run (RunFault.Input f)))
-        → IfSome (R.remaining reader.old) (λ input. script_of input ≡ Err f) }
-    ensures no_call { result ≡ Err ShrinkFault.NoCall → IfSome (R.remaining reader.old) (LacksCall what.now) }
-    ensures no_tree { (f : ScriptFault) → result ≢ Err (ShrinkFault.Start (start.Tree f)) }
-    ensures full { result ≢ Err (ShrinkFault.Start (start.Run RunFault.Full)) }
+impl<Listener> Command<Listener> for ShrinkScript {
+    ghost use Rattle.fs_sched_shrink.specs.Makes.{MakesShrinking};
+    ghost use Rattle.fs_sched_shrink.specs.code.Laws.{shrink_honest};
 
-    // `UnderWay` comes where the script comes to a checkpoint while calls are under way; then it has no run.
-    ensures under_way { (call : ℕ) → result ≡ Err (ShrinkFault.Start (start.Run (RunFault.UnderWay call)))
-        → IfSome (R.remaining reader.old) (λ input. ReachesStop Given input (RunFault.UnderWay call)) }
+    type End = Option<Shrunk>;
 
-    // A device is blamed only where it failed in this call; after a failed write a beginning of the text stands, and after every
-    // other error nothing was written.
-    ensures devices { KeepsDevices R.failures W.failures reader.old reader.new writer.old writer.new
-        (ShrinkFault.Start (start.Run RunFault.Read)) (ShrinkFault.Start (start.Run RunFault.Write)) result }
-    ensures beginning { IsErrOf result (ShrinkFault.Start (start.Run RunFault.Write)) → (shrunk : Option Shrunk) × (text : List ℕ)
-        × IfSome (R.remaining reader.old) (λ input. IsShrinkingOf what.now input shrunk text)
-        × WritesBeginning text (W.contents writer.old) (W.contents writer.new) }
-{
-    let ended = transform(
-        alloc,
-        reader,
-        writer,
-        |text| -> Result<Made<Option<Shrunk>>, ShrinkFault>
-            ensures { MakesShrinking what.entry.now text.items result }
-        { shrunk_in(alloc, text.as_slice(), what) },
-    );
-    match ended {
-        Ok(shrunk) => Ok(shrunk),
-        Err(failure) => Err(between(failure)),
+    type Fault = ShrinkFault;
+
+    ghost Asks = { λ _. Unit {0} };
+
+    ghost Makes = { λ c. MakesShrinking c.tree c.what.items };
+
+    fn make(
+        self,
+        alloc: Global,
+        input: Vec<u8>,
+        _listener: &mut Listener,
+    ) -> Result<Made<Option<Shrunk>>, ShrinkFault> {
+        let ShrinkScript { tree, what } = self;
+        shrunk_in(alloc, tree, input.as_slice(), what.as_slice())
     }
+
+    ghost honest = { λ c. shrink_honest c.tree c.what.items };
 }

@@ -1,5 +1,5 @@
 -- Runs from a tree: what is said of one is said of each.
-use Rattle.std.proofs.Common.{◌≡◌, ◌≢◌, ◌<◌, ◌^◌, ℕ, true, false, List, length, Option, Some, None, Result, Ok, sym, ap, ◌∙◌, subst}
+use Rattle.std.proofs.Common.{◌≡◌, ◌≢◌, ◌<◌, ◌^◌, ℕ, true, List, length, Option, Some, None, Result, Ok, sym, ap, ◌∙◌, subst}
 use Rattle.std.specs.List.{list_any}
 use Rattle.fs_calls.specs.Starts.{Start}
 use Rattle.fs_nodes.specs.Stores.{graph_of}
@@ -8,7 +8,6 @@ use Rattle.fs_core.specs.CoreValues.{CoreValue, state_of}
 use Rattle.fs_machine.specs.States.{State, Run}
 use Rattle.fs_laws.proofs.journal.ViewOfTimeline.{linearizes}
 use Rattle.fs_linearizable.proofs.LawfulLemmas.{lawful_is_linearizable}
-use Rattle.fs_words.specs.Headers.{is_too_long}
 use Rattle.fs_words.specs.declared.fault.ScriptFault.{ScriptFault}
 use Rattle.fs_script.specs.Journals.{start_of}
 use Rattle.fs_script.specs.Script.{script_of}
@@ -17,22 +16,22 @@ use Rattle.fs_sched.specs.Devices.{IsFaultOf}
 use Rattle.fs_sched.specs.EachRun.{HasShortNames, SomeIsReadAgain}
 use Rattle.fs_sched.specs.Laws.{AreOneRun}
 use Rattle.fs_sched.specs.Runs.{Stage, before_all, StopsFrom, AreOfRun, IsOutputFrom, IsWhole, HasFinish}
-use Rattle.fs_sched.specs.Schedules.{is_finish}
+use Rattle.fs_sched.specs.Schedules.{is_finish, schedule_by}
 use Rattle.fs_sched.specs.code.Mades.{IsRead}
 use Rattle.fs_sched.specs.code.Stages.{IsWhy}
+use Rattle.fs_sched.specs.declared.origin.Origin.{Origin}
 use Rattle.fs_sched.specs.declared.running.RunEnd.{RunEnd}
 use Rattle.fs_sched.specs.declared.policy.Campaign.{Campaign}
 use Rattle.fs_sched.specs.declared.policy.Policy.{Policy}
 use Rattle.fs_sched.specs.declared.schedule.Schedule.{Schedule}
 use Rattle.fs_sched.specs.declared.schedule.Schedule.TheVariants.{Given}
 use Rattle.fs_sched.proofs.OneText.{one_from, of_one, one_again}
-use Rattle.fs_sched.proofs.RunLemmas.{script_short}
 use Rattle.fs_sched.proofs.Whole.{last_keeps, whole_end, always_goes_on, finish_goes_on}
 use Rattle.fs_verdict.specs.declared.fault.RunFault.{RunFault}
 use Rattle.fs_verdict.specs.declared.fault.RunFault.TheVariants as run
 use Rattle.fs_sched_start.specs.Laws.{OneRunFrom}
-use Rattle.fs_sched.specs.Origins.{IsBefore, RunsAt, LacksRun}
-use Rattle.fs_sched_start.specs.Starts.{AreGiven, ArePlanned, IsRunAt, AreOfEachRunAt, AreOfTheRunAt, IsLinearizableRunAt, EachIsReadAgainAt, HasTreeFaultAt, IsFaultAt, IsFaultOfRunsAt}
+use Rattle.fs_sched.specs.Origins.{FillsBy, IsBefore, RunsAt, LacksRun}
+use Rattle.fs_sched_start.specs.Starts.{AreGiven, ArePlanned, IsRunAt, AreOfEachRunAt, AreOfTheRunAt, IsLinearizableRunAt, EachIsReadAgainAt, IsFaultAt, IsFaultOfRunsAt, SomeFillsAt}
 use Rattle.fs_sched_start.specs.code.Mades.{IsCoreAt, IsFaultOfGiven, IsFaultOfPlanned, IsNoCore}
 use Rattle.fs_sched_start.specs.declared.fault.StartFault.{StartFault}
 use Rattle.fs_sched_start.specs.declared.fault.StartFault.TheVariants.{Run as Runs, Tree}
@@ -150,12 +149,17 @@ of_planned tree by seed runs input (Runs run.Full) is = absurd is
 of_planned tree by seed runs input (Runs (run.UnderWay c)) is = absurd is
 of_planned tree by seed runs input (Tree f) is = is
 
+-- a call of one of the runs begins when all numbers are in use: not from the root alone
+fills_at : (tree : Option (List ℕ)) (by : Policy) (seed runs : ℕ) (input : List ℕ) (script : Script) (drawn : Campaign) → ArePlanned tree by input script drawn → LacksRun drawn script seed runs run.Full → SomeFillsAt tree by seed runs input
+fills_at None by seed runs input script drawn planned (n, least, below, fills) = subst (λ (from : Origin). FillsBy from (schedule_by drawn.by n) script) planned.1 fills
+fills_at (Some tree) by seed runs input script drawn planned lacks = (script, drawn, planned, lacks)
+
 pub of_runs : (tree : Option (List ℕ)) (by : Policy) (seed runs : ℕ) (input : List ℕ) (script : Script) (drawn : Campaign) (fault : RunFault) → ArePlanned tree by input script drawn → LacksRun drawn script seed runs fault → IsFaultOfRunsAt tree by seed runs input (Runs fault)
 of_runs tree by seed runs input script drawn (run.Input f) planned (n, least, below, is) = absurd is
 of_runs tree by seed runs input script drawn run.Read planned (n, least, below, is) = absurd is
 of_runs tree by seed runs input script drawn run.Write planned (n, least, below, is) = absurd is
 of_runs tree by seed runs input script drawn run.OutOfMemory planned lacks = tt
-of_runs tree by seed runs input script drawn run.Full planned lacks = (script, drawn, planned, lacks)
+of_runs tree by seed runs input script drawn run.Full planned lacks = fills_at tree by seed runs input script drawn planned lacks
 of_runs tree by seed runs input script drawn (run.UnderWay c) planned (n, least, below, is) = absurd is
 
 -- ---- the script and how its runs are drawn
@@ -196,8 +200,3 @@ no_script tree input run.Write is = absurd is
 no_script tree input run.OutOfMemory is = tt
 no_script tree input run.Full is = absurd is
 no_script tree input (run.UnderWay c) is = absurd is
-
--- a text of a script that is there is not too long
-pub tree_short : (tree : Option (List ℕ)) (text items : List ℕ) (f : ScriptFault) → text ≡ items → HasTreeFaultAt tree text (Tree f) → is_too_long items ≡ false
-tree_short None text items f e has = absurd has
-tree_short (Some tree) text items f e (script, is, none) = script_short text items script e is

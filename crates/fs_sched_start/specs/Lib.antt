@@ -1,4 +1,6 @@
 pub mod Faults
 pub mod Starts
+pub mod Makes
+pub mod Objects
 pub mod Laws
 pub mod code

@@ -93,7 +93,8 @@ AreRunsAt tree by seed runs input text = (script : Script) × (drawn : Campaign)
 
 -- one of these runs comes to a begin that finds all numbers in use; from the root alone none does
 abbrev pub SomeFillsAt : Option (List ℕ) → Policy → ℕ → ℕ → List ℕ → Type 0
-SomeFillsAt tree by seed runs input = (script : Script) × (drawn : Campaign) × ArePlanned tree by input script drawn × LacksRun drawn script seed runs run.Full
+SomeFillsAt None by seed runs input = ⊥
+SomeFillsAt (Some tree) by seed runs input = (script : Script) × (drawn : Campaign) × ArePlanned (Some tree) by input script drawn × LacksRun drawn script seed runs run.Full
 
 -- why there are none: the input's fault, the tree's, out of memory, or too few numbers
 abbrev pub IsFaultOfRunsAt : Option (List ℕ) → Policy → ℕ → ℕ → List ℕ → StartFault → Type 0

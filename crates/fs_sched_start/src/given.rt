@@ -23,9 +23,9 @@ use std::alloc::Global;
 
 /// A script, and where its runs begin.
 #[derive(Drop)]
-pub struct Given {
-    pub script: Script,
-    pub from: Origin,
+pub(crate) struct Given {
+    pub(crate) script: Script,
+    pub(crate) from: Origin,
 }
 
 /// The line of a text that stands behind so many lines that are not passed over; where there are fewer, the number of lines.
@@ -102,7 +102,7 @@ pub(crate) fn core_at(alloc: Global, text: &[u8], limits: Limits) -> Result<Core
 
 /// The script that a text has, and the tree that another one has by the limits of the script. A fault of the script comes before one
 /// of the tree.
-pub fn given_in(alloc: Global, tree: &[u8], text: &[u8]) -> Result<Given, StartFault>
+pub(crate) fn given_in(alloc: Global, tree: &[u8], text: &[u8]) -> Result<Given, StartFault>
     ensures given { IfOk result (IsGiven tree.now text.now) }
     ensures few { IfOk result (λ given. calls_in given.script.lists ≤ call_limit given.script.limits) }
     ensures begins { IfOk result (λ given. CanBegin given.from given.script.limits) }

@@ -4,6 +4,6 @@ mod Lining
 mod Making
 mod Naming
 mod Objecting
-mod Playing
+pub mod Playing
 mod Rereading
 mod Wording

@@ -1,3 +1,4 @@
+pub mod Laws
 pub mod LineTexts
 pub mod Mades
 pub mod ObjectTexts

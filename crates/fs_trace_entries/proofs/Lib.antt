@@ -1,4 +1,3 @@
 mod EntryLines
-mod Inputs
 mod Objecting
 mod Somes

@@ -15,7 +15,7 @@ use Rattle.fs_sched.specs.declared.schedule.Schedule.TheVariants.{Given}
 use Rattle.fs_trace.specs.Objects.{AreObjectsOf}
 use Rattle.fs_trace.specs.Traces.{IsTraceOf}
 use Rattle.fs_trace_replay.specs.Commits.{front_by}
-use Rattle.fs_trace_replay.specs.Replays.{is_journal, IsReplayOf}
+use Rattle.fs_trace_replay.specs.Replays.{IsReplayOf}
 use Rattle.fs_trace_replay.specs.declared.asking.Question.TheVariants.{Whole}
 use Rattle.fs_trace_entries.specs.Each.{AreEach}
 use Rattle.fs_trace_entries.specs.Objects.{AreObjectsBehind}
@@ -64,7 +64,3 @@ IsTraceOfRun notation schedule every input well text = (end : RunEnd) × IsWritt
 abbrev pub IsTraceAs : Notation → Bool → Schedule → Bool → List ℕ → Bool → List ℕ → Type 0
 IsTraceAs notation true schedule every input well text = IsTraceOfJournal notation input well text
 IsTraceAs notation false schedule every input well text = IsTraceOfRun notation schedule every input well text
-
--- the trace of an input: of its journal, where it has the first bytes of one, and else of a run of its script
-abbrev pub IsTraceOfInput : Notation → Schedule → Bool → List ℕ → Bool → List ℕ → Type 0
-IsTraceOfInput notation schedule every input well text = IsTraceAs notation (is_journal input) schedule every input well text

@@ -1,4 +1,5 @@
 pub mod Each
 pub mod Entries
+pub mod Makes
 pub mod Objects
 pub mod code

@@ -1,2 +1,3 @@
 -- What ties the code to the definitions: of it nothing has to be believed.
+pub mod Laws
 pub mod Mades

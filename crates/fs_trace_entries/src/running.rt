@@ -1,36 +1,31 @@
-//! The runner that writes the trace of a script's run or of a journal.
+//! The trace of a script's run or of a journal, and the command that makes it of an input.
 
-ghost use Rattle.std.specs.Prelude.{◌≡◌, ◌≢◌, ◌++◌, ◌+◌, ◌-◌, ◌<◌, ◌^◌, [], ℕ, Bool, List, true, false, Ok, Err, IfOk, OnOk, OnErr, IfErr, IfSome, IsErrOf, codes};
-ghost use Rattle.std.specs.Io.KnownBytes.{Appends, IsAtEnd};
-ghost use Rattle.fs_words.specs.declared.fault.ScriptFault.{ScriptFault};
+ghost use Rattle.std.specs.Prelude.{◌≡◌, ◌++◌, [], Bool, List, true, false, IfOk, OnOk, IfErr, codes};
 ghost use Rattle.fs_timeline.specs.declared.entry.Entry.{Entry};
-ghost use Rattle.fs_timeline.specs.Verdicts.{verdict};
-ghost use Rattle.fs_script.specs.Journals.{journal_of};
+ghost use Rattle.fs_verdict.specs.Checks.{is_journal};
 ghost use Rattle.fs_verdict.specs.InputFaults.{IsFaultOf};
 ghost use Rattle.fs_sched.specs.Checks.{verdict_of};
 ghost use Rattle.fs_sched.specs.RunTexts.{end_line};
-ghost use Rattle.fs_sched.specs.Devices.{KeepsDevices, WritesBeginning};
-ghost use Rattle.fs_sched.specs.Runs.{IsFaultOfRun, ReachesStop};
+ghost use Rattle.fs_sched.specs.Runs.{IsFaultOfRun};
 ghost use Rattle.fs_sched.specs.code.Counts.{AreCounts};
 ghost use Rattle.fs_trace_replay.specs.Commits.{front_by};
-ghost use Rattle.fs_trace_replay.specs.Replays.{HasFault, IsReplayOf, is_journal};
+ghost use Rattle.fs_trace_replay.specs.Replays.{IsReplayOf};
 ghost use Rattle.fs_trace_replay.specs.declared.asking.Question.TheVariants as question;
-ghost use Rattle.fs_trace.specs.Objects.{AreObjectsOf};
-ghost use Rattle.fs_trace_entries.specs.Entries.{IsTraceBehind, IsTraceOfInput, IsTraceOfJournal, IsWrittenBehind, IsWrittenRun};
+ghost use Rattle.fs_trace_entries.specs.Entries.{IsTraceBehind, IsTraceOfJournal, IsWrittenBehind, IsWrittenRun};
+ghost use Rattle.fs_trace_entries.specs.Makes.{MakesTrace, MakesTraceAs};
 ghost use Rattle.fs_trace_entries.specs.Objects.{AreObjectsBehind, end_object};
-ghost use Rattle.fs_trace_entries.specs.code.Mades.{MakesTraceAs};
 
 use crate::left::{left_objects, left_text};
 use crate::lines::lines_of;
 use crate::objects::objects_of;
 use fs_journal::check_from;
-use fs_sched::{Counts, RunEnd, RunFault, Schedule, between, counts_of, journal_in, push_counts};
+use fs_sched::{Counts, RunEnd, RunFault, Schedule, counts_of, journal_in, push_counts};
 use fs_script::Journal;
 use fs_seq::SeqTree;
 use fs_timeline::{Entry, Verdict};
-use fs_trace::{trace_bytes, trace_objects};
-use fs_trace_replay::{Question, ReplayFault, Replayed, replay_input};
-use fs_verdict::{Device, Made, Sink, Source, transform};
+use fs_trace::{object_bytes, trace_bytes};
+use fs_trace_replay::{Question, ReplayFault, Replayed, replay_bytes};
+use fs_verdict::{Command, Made, is_journal};
 use fs_words::{Addition, Member, push_object};
 use std::alloc::{AllocError, Global};
 
@@ -59,21 +54,10 @@ fn tree_in(alloc: Global, text: &[u8]) -> Result<Made<Replayed>, RunFault>
     ensures quiet { IfOk result (λ made. made.end.well ≡ true → made.end.reason.items ≡ []) }
     ensures fault { IfErr result (IsFaultOf (verdict_of text.now)) }
 {
-    let mut reader = Device::new(text);
-    let mut writer = Device::new(Vec::new(alloc));
-    match replay_input(
-        alloc,
-        &mut reader,
-        &mut writer,
-        Schedule::Given,
-        &Question::Whole,
-    ) {
-        Ok(replayed) => Ok(Made {
-            text: writer.inner,
-            end: replayed,
-        }),
-        Err(ReplayFault::Run(RunFault::Input(fault))) => Err(RunFault::Input(fault)),
-        // Bytes in memory are there to be read, and are written as long as there is memory.
+    match replay_bytes(alloc, text, Schedule::Given, &Question::Whole) {
+        Ok(made) => Ok(made),
+        Err(ReplayFault::Run(fault)) => Err(fault),
+        // Each journal has a whole tree.
         Err(_) => Err(RunFault::OutOfMemory),
     }
 }
@@ -222,31 +206,7 @@ fn trace_journal(
     }
 }
 
-/// The trace of the run of a script that a text has, as objects.
-fn run_objects(
-    alloc: Global,
-    text: &[u8],
-    schedule: Schedule,
-    every: bool,
-) -> Result<Made<RunEnd>, RunFault>
-    ensures traced { IfOk result (λ made. AreObjectsOf schedule every text.now made.end made.text.items) }
-    ensures fault { IfErr result (IsFaultOfRun schedule text.now) }
-{
-    let mut reader = Device::new(text);
-    let mut writer = Device::new(Vec::new(alloc));
-    match trace_objects(alloc, &mut reader, &mut writer, schedule, every) {
-        Ok(end) => Ok(Made {
-            text: writer.inner,
-            end,
-        }),
-        Err(fault @ RunFault::Input(_)) => Err(fault),
-        Err(fault @ RunFault::UnderWay(_)) => Err(fault),
-        // Bytes in memory are there to be read, and are written as long as there is memory.
-        Err(_) => Err(RunFault::OutOfMemory),
-    }
-}
-
-/// The same in a notation.
+/// The trace of the run of a script that a text has, in a notation.
 fn run_text(
     alloc: Global,
     text: &[u8],
@@ -259,7 +219,7 @@ fn run_text(
 {
     match notation {
         Notation::Words => trace_bytes(alloc, text, schedule, every),
-        Notation::Objects => run_objects(alloc, text, schedule, every),
+        Notation::Objects => object_bytes(alloc, text, schedule, every),
     }
 }
 
@@ -285,13 +245,6 @@ fn trace_run(
     }
 }
 
-/// Whether a text is to be read as a journal.
-fn is_journal(text: &[u8]) -> bool
-    ensures { result ≡ is_journal text.now }
-{
-    text.starts_with(b"atomfs-journal")
-}
-
 /// The trace of a text: as a journal, where it has the first bytes of one, and else as a script.
 fn trace_text(
     alloc: Global,
@@ -300,7 +253,7 @@ fn trace_text(
     every: bool,
     notation: Notation,
 ) -> Result<Made<Traced>, RunFault>
-    ensures { MakesTraceAs notation (is_journal text.now) schedule every text.now result }
+    ensures { MakesTrace notation schedule every text.now result }
 {
     if is_journal(text) {
         trace_journal(alloc, text, schedule, every, notation)
@@ -309,52 +262,45 @@ fn trace_text(
     }
 }
 
-/// Reads a script to its end, runs it with a schedule and writes the trace of its run, as `trace_script` or
-/// `trace_objects` does. Or reads a journal, and writes a line or an object for each of its entries, up to the first
-/// fault if it is not lawful, and then the tree and the counts. The text is made before its first byte is written. The
-/// answer is whether each call of the script returned, or the journal is lawful, and the journal's fault in words.
-pub fn trace_input<R: Source, W: Sink>(
-    alloc: Global,
-    reader: &mut R,
-    writer: &mut W,
-    schedule: Schedule,
-    every: bool,
-    notation: Notation,
-) -> Result<Traced, RunFault>
-    requires reads { R.failures reader.old < 2 ^ 64 - 1 }
-    requires writes { W.failures writer.old < 2 ^ 64 - 1 }
+/// The trace of a script's run, as `trace_bytes` or `object_bytes` of `fs_trace` makes it. Or of a journal a line or an object for each of
+/// its entries, up to the first fault if it is not lawful, and then the tree and the counts. The answer is whether each call of the script
+/// returned, or the journal is lawful, and the journal's fault in words. `UnderWay` means that the script comes to a checkpoint while calls
+/// are pending. Nobody hears of progress.
+#[derive(Clone, Copy, Debug, PartialEq, Eq)]
+pub struct TraceInput {
+    /// By what a script is run.
+    pub schedule: Schedule,
+    /// Whether each event of a run has a line, also one that says nothing new.
+    pub every: bool,
+    /// How the trace is written.
+    pub notation: Notation,
+}
 
-    // What is written is the trace of a run of the script that was read, or of the journal, by its first bytes; and the answer how that went.
-    ensures ran { IfOk result (λ traced. (text : List ℕ)
-        × IfSome (R.remaining reader.old) (λ input. IsTraceOfInput notation schedule every input traced.well text)
-        × Appends (W.contents writer.old) (W.contents writer.new) text) }
-    ensures quiet { IfOk result (λ traced. traced.well ≡ true → traced.reason.items ≡ []) }
-    ensures end { OnOk result (IsAtEnd (R.remaining reader.new)) }
-    ensures input { (f : ScriptFault) → result ≡ Err (RunFault.Input f) → IfSome (R.remaining reader.old) (λ input. HasFault input f) }
-    ensures full { result ≢ Err RunFault.Full }
+impl<Listener> Command<Listener> for TraceInput {
+    ghost use Rattle.fs_trace_entries.specs.Makes.{MakesTrace};
+    ghost use Rattle.fs_trace_entries.specs.code.Laws.{trace_honest};
 
-    // `UnderWay` comes where the script comes to a checkpoint while calls are under way; then it has no run.
-    ensures under_way { (call : ℕ) → result ≡ Err (RunFault.UnderWay call)
-        → IfSome (R.remaining reader.old) (λ input. ReachesStop schedule input (RunFault.UnderWay call)) }
+    type End = Traced;
 
-    // A device is blamed only where it failed in this call; after a failed write a beginning of the trace stands, and after every
-    // other error nothing was written.
-    ensures devices { KeepsDevices R.failures W.failures reader.old reader.new writer.old writer.new
-        RunFault.Read RunFault.Write result }
-    ensures beginning { IsErrOf result RunFault.Write → (well : Bool) × (text : List ℕ)
-        × IfSome (R.remaining reader.old) (λ input. IsTraceOfInput notation schedule every input well text)
-        × WritesBeginning text (W.contents writer.old) (W.contents writer.new) }
-{
-    let ended = transform(
-        alloc,
-        reader,
-        writer,
-        |text| -> Result<Made<Traced>, RunFault>
-            ensures { MakesTraceAs notation (is_journal text.items) schedule every text.items result }
-        { trace_text(alloc, text.as_slice(), schedule, every, notation) },
-    );
-    match ended {
-        Ok(traced) => Ok(traced),
-        Err(failure) => Err(between(failure)),
+    type Fault = RunFault;
+
+    ghost Asks = { λ _. Unit {0} };
+
+    ghost Makes = { λ c. MakesTrace c.notation c.schedule c.every };
+
+    fn make(
+        self,
+        alloc: Global,
+        input: Vec<u8>,
+        _listener: &mut Listener,
+    ) -> Result<Made<Traced>, RunFault> {
+        let TraceInput {
+            schedule,
+            every,
+            notation,
+        } = self;
+        trace_text(alloc, input.as_slice(), schedule, every, notation)
     }
+
+    ghost honest = { λ c. trace_honest c.notation c.schedule c.every };
 }

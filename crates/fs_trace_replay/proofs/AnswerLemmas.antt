@@ -1,5 +1,5 @@
 -- What is answered, by what was found.
-use Rattle.std.proofs.Common.{◌≡◌, ℕ, ◌+◌, ◌-◌, ◌<◌, ◌≤◌, Bool, true, false, List, length, take, get_or, Option, Some, None, refl, sym, ap, ◌∙◌, subst, arith}
+use Rattle.std.proofs.Common.{◌≡◌, ℕ, ◌-◌, ◌<◌, ◌≤◌, Bool, true, false, List, length, take, get_or, Option, Some, None, refl, sym, ap, ◌∙◌, subst, arith}
 use Rattle.std.proofs.lemmas.List.{length-map, take-map, take_all}
 use Rattle.std.specs.Prelude.{slice_get}
 use Rattle.std.specs.Option.{option_map}
@@ -14,9 +14,10 @@ use Rattle.fs_script.specs.TreeText.{tree_text}
 use Rattle.fs_trace_replay.specs.Changes.{IsLastChange}
 use Rattle.fs_trace_replay.specs.Commits.{CommitsBehind, IsTurn, committed, tree_after}
 use Rattle.fs_sched.specs.declared.schedule.Schedule.{Schedule}
+use Rattle.fs_verdict.specs.Checks.{is_journal}
 use Rattle.fs_verdict.specs.declared.fault.RunFault.{RunFault}
 use Rattle.fs_verdict.specs.declared.fault.RunFault.TheVariants as run
-use Rattle.fs_trace_replay.specs.Replays.{IsCallBehind, IsCallOf, IsFaultOfReplay, IsLineOfChange, IsToldBy, IsUntold, Telling, is_journal, seat_by}
+use Rattle.fs_trace_replay.specs.Replays.{IsCallBehind, IsCallOf, IsFaultOfReplay, IsLineOfChange, IsToldBy, IsUntold, Telling, seat_by}
 use Rattle.fs_trace_replay.specs.declared.asking.Question.{Question}
 use Rattle.fs_trace_replay.specs.declared.asking.Question.TheVariants as question
 use Rattle.fs_trace_replay.specs.declared.fault.ReplayFault.{ReplayFault}

@@ -1,6 +1,5 @@
 mod CommitLemmas
 mod ChangeLemmas
 mod TurnLemmas
-mod Reasons
 mod AnswerLemmas
 mod WritingLemmas

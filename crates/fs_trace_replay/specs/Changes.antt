@@ -1,5 +1,5 @@
 -- Which call last changed what stands at a path.
-use Rattle.std.specs.Prelude.{◌≡◌, ◌≢◌, ◌<◌, ◌≤◌, ◌-◌, ℕ, List, Option, Some, None, take}
+use Rattle.std.specs.Prelude.{◌≢◌, ◌<◌, ◌≤◌, ◌-◌, ℕ, List, Option, Some, None, take}
 use Rattle.fs_names.specs.Keys.{Key}
 use Rattle.fs_calls.specs.Tree.{Node, look}
 use Rattle.fs_calls.specs.Starts.{Start}

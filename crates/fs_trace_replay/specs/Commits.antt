@@ -5,7 +5,6 @@ use Rattle.fs_calls.specs.Tree.{Tree}
 use Rattle.fs_calls.specs.Starts.{Start}
 use Rattle.fs_calls.specs.Outcomes.{play}
 use Rattle.fs_timeline.specs.Timeline.{has_begun, commits}
-use Rattle.fs_timeline.specs.Verdicts.{verdict}
 use Rattle.fs_timeline.specs.declared.verdict.Verdict.{Verdict}
 use Rattle.fs_timeline.specs.declared.verdict.Verdict.TheVariants.{Lawful, Fault}
 use Rattle.fs_timeline.specs.declared.entry.Entry.{Entry}

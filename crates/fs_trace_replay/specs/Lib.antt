@@ -4,4 +4,5 @@ pub mod Texts
 pub mod Questions
 pub mod Faults
 pub mod Replays
+pub mod Makes
 pub mod code

@@ -1,18 +1,17 @@
 -- What an input tells, and what is answered of it.
-use Rattle.std.specs.Prelude.{◌≡◌, ◌≢◌, ℕ, ◌-◌, ◌≤◌, ◌<◌, ◌⊎◌, Bool, true, false, ◌&&◌, ◌==◌, List, [], length, Option, Some, None, Ok, Err, get_or, slice_get, codes, decimal}
-use Rattle.std.specs.List.{starts_with}
+use Rattle.std.specs.Prelude.{◌≡◌, ℕ, ◌-◌, ◌≤◌, ◌<◌, Bool, true, false, ◌&&◌, List, [], length, Option, Some, None, Ok, get_or, slice_get, decimal}
 use Rattle.fs_calls.specs.Starts.{Start}
 use Rattle.fs_calls.specs.declared.call.Call.{Call}
 use Rattle.fs_timeline.specs.Timeline.{commits}
 use Rattle.fs_timeline.specs.Verdicts.{verdict}
 use Rattle.fs_timeline.specs.declared.entry.Entry.{Entry}
 use Rattle.fs_words.specs.Words.{number_of}
-use Rattle.fs_words.specs.declared.fault.ScriptFault.{ScriptFault}
 use Rattle.fs_script.specs.Journals.{journal_of}
 use Rattle.fs_script.specs.Script.{script_of, seat_named}
 use Rattle.fs_script.specs.TreeText.{tree_text}
 use Rattle.fs_script.specs.declared.script.Script.{Script}
 use Rattle.fs_verdict.specs.declared.fault.RunFault.{RunFault}
+use Rattle.fs_verdict.specs.Checks.{is_journal}
 use Rattle.fs_verdict.specs.InputFaults.{IsFaultOf}
 use Rattle.fs_sched.specs.Checks.{is_lawful, verdict_of}
 use Rattle.fs_sched.specs.Runs.{Stage, Runs, IsFaultOfRun}
@@ -33,10 +32,6 @@ pub record Telling : Type 0 where
   pub start : Start
   pub entries : List Entry
   pub lawful : Bool
-
--- whether an input is read as a journal: by its first bytes
-abbrev pub is_journal : List ℕ → Bool
-is_journal input = starts_with (λ a b. a == b) input (codes "atomfs-journal")
 
 -- a journal tells its start and the entries before its first fault
 abbrev pub IsToldByJournal : List ℕ → Telling → Type 0
@@ -115,11 +110,3 @@ IsNotThereIn schedule input question f = (told : Telling) × IsToldBy (is_journa
 abbrev pub IsFaultOfReplay : Schedule → List ℕ → Question → ReplayFault → Type 0
 IsFaultOfReplay schedule input question (fault.Run f) = IsUntold (is_journal input) schedule input f
 IsFaultOfReplay schedule input question f = IsNotThereIn schedule input question f
-
--- what is wrong with an input: as a journal, where it has the first bytes of one, and else as a script
-abbrev pub HasFaultAs : Bool → List ℕ → ScriptFault → Type 0
-HasFaultAs true input f = verdict_of input ≡ Err f
-HasFaultAs false input f = script_of input ≡ Err f
-
-abbrev pub HasFault : List ℕ → ScriptFault → Type 0
-HasFault input f = HasFaultAs (is_journal input) input f

@@ -2,4 +2,4 @@
 pub mod Seen
 pub mod Sights
 pub mod Tellings
-pub mod Mades
+pub mod Laws

@@ -2,11 +2,12 @@
 
 ghost use Rattle.std.specs.Prelude.{◌≡◌, [], Ok, IfOk, IfErr, get_or};
 ghost use Rattle.fs_calls.specs.Tree.{IsTree};
+ghost use Rattle.fs_verdict.specs.Checks.{is_journal};
 ghost use Rattle.fs_verdict.specs.InputFaults.{IsFaultOf};
 ghost use Rattle.fs_script.specs.Journals.{journal_of};
 ghost use Rattle.fs_sched.specs.Checks.{verdict_of};
 ghost use Rattle.fs_sched.specs.Runs.{IsFaultOfRun};
-ghost use Rattle.fs_trace_replay.specs.Replays.{IsToldBy, IsToldByJournal, IsToldByScript, IsUntold, is_journal, seat_by, thread_word};
+ghost use Rattle.fs_trace_replay.specs.Replays.{IsToldBy, IsToldByJournal, IsToldByScript, IsUntold, seat_by, thread_word};
 ghost use Rattle.fs_trace_replay.specs.code.Tellings.{value_of};
 ghost use Rattle.fs_trace_replay.specs.Commits.{front_by};
 
@@ -15,6 +16,7 @@ use fs_sched::{RunFault, Schedule, Silent, is_lawful, run_fault, script_in, watc
 use fs_script::{Journal, ThreadNames, read_journal};
 use fs_seq::SeqTree;
 use fs_timeline::{Entry, Verdict};
+use fs_verdict::is_journal;
 use fs_words::Addition;
 use fs_words::words::number_of;
 use std::alloc::{AllocError, Global};
@@ -93,13 +95,6 @@ fn told_by_script(alloc: Global, text: &[u8], schedule: Schedule) -> Result<Told
         entries: timeline.into_entries(),
         lawful: true,
     })
-}
-
-/// Whether a text is to be read as a journal.
-fn is_journal(text: &[u8]) -> bool
-    ensures { result ≡ is_journal text.now }
-{
-    text.starts_with(b"atomfs-journal")
 }
 
 /// What an input says: as a journal, if it has the first bytes of one, and else as a script.

@@ -1,3 +1,6 @@
 pub mod CheckLemmas
 pub mod Unmade
 pub mod KnownLemmas
+pub mod Performed
+mod Performing
+mod Verdicts

@@ -1,5 +1,6 @@
 -- The verdict on a journal text, and its line.
-use Rattle.std.specs.Prelude.{ℕ, Bool, true, false, List, ◌++◌, Result, Ok, Err, codes, decimal}
+use Rattle.std.specs.Prelude.{ℕ, ◌==◌, Bool, true, false, List, ◌++◌, Result, Ok, Err, codes, decimal}
+use Rattle.std.specs.List.{starts_with}
 use Rattle.fs_calls.specs.Starts.{Start}
 use Rattle.fs_timeline.specs.declared.entry.Entry.{Entry}
 use Rattle.fs_timeline.specs.Verdicts.{verdict}
@@ -19,6 +20,10 @@ kind_word kind.CommitTwice = codes "CommitTwice"
 kind_word kind.ReturnUncommitted = codes "ReturnUncommitted"
 kind_word kind.ReturnTwice = codes "ReturnTwice"
 kind_word kind.WrongReply = codes "WrongReply"
+
+-- whether a text that may be a journal or a script is to be read as a journal: it has the first bytes of one
+abbrev pub is_journal : List ℕ → Bool
+is_journal input = starts_with (λ a b. a == b) input (codes "atomfs-journal")
 
 -- whether a verdict is Lawful
 abbrev pub is_lawful : Verdict → Bool

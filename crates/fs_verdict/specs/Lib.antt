@@ -2,4 +2,8 @@ pub mod Faults
 pub mod Checks
 pub mod InputFaults
 pub mod Devices
+pub mod Commands
+pub mod Forms
+pub mod Judged
+pub mod Objects
 pub mod code

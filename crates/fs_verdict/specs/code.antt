@@ -1,2 +1,4 @@
 -- What ties the code to the definitions: of it nothing has to be believed.
-pub mod Judged
+pub mod CommandLaws
+pub mod CheckLaws
+pub mod FormLaws

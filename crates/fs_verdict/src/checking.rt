@@ -8,12 +8,13 @@ ghost use Rattle.fs_words.specs.declared.fault.ScriptFault.{ScriptFault};
 ghost use Rattle.fs_verdict.specs.Checks.{is_lawful, verdict_line, verdict_of};
 ghost use Rattle.fs_verdict.specs.Devices.{KeepsDevices, WritesBeginningOf};
 ghost use Rattle.fs_verdict.specs.InputFaults.{IsFaultOf};
-ghost use Rattle.fs_verdict.specs.code.Judged.{IsAnswer, MakesVerdict};
+ghost use Rattle.fs_verdict.specs.Judged.{IsAnswer, MakesVerdict};
 
+use crate::command::{Command, perform};
 use crate::device::{Sink, Source};
-use crate::fault::{RunFault, between, run_fault};
+use crate::fault::{RunFault, run_fault};
 use crate::reason::reason_of;
-use crate::shell::{Made, transform};
+use crate::shell::Made;
 use crate::verdict_line::verdict_line;
 use fs_journal::check_from;
 use fs_script::{Journal, read_journal};
@@ -47,6 +48,8 @@ fn verdict_on(alloc: Global, journal: &Journal) -> Result<Verdict, RunFault>
 pub struct Checked {
     /// Whether it is lawful.
     pub lawful: bool,
+    /// The verdict.
+    pub verdict: Verdict,
     /// What is wrong with it, in words; no bytes where it is lawful.
     pub reason: Vec<u8>,
 }
@@ -63,10 +66,12 @@ fn answer_of(
     match verdict {
         Verdict::Lawful => Ok(Checked {
             lawful: true,
+            verdict: *verdict,
             reason: Vec::new(alloc),
         }),
         Verdict::Fault(place, kind) => Ok(Checked {
             lawful: false,
+            verdict: *verdict,
             reason: reason_of(alloc, text, journal, place.saturating_sub(1), *kind)?,
         }),
     }
@@ -85,7 +90,7 @@ fn line_of(alloc: Global, verdict: &Verdict) -> Result<Vec<u8>, RunFault>
 
 /// The line of the verdict on the journal that a text has, and what is answered of it.
 fn check_text(alloc: Global, text: &[u8]) -> Result<Made<Checked>, RunFault>
-    ensures { MakesVerdict text.now result }
+    ensures { MakesVerdict (verdict_of text.now) result }
 {
     let journal = journal_in(alloc, text)?;
     let verdict = verdict_on(alloc, &journal)?;
@@ -96,6 +101,33 @@ fn check_text(alloc: Global, text: &[u8]) -> Result<Made<Checked>, RunFault>
         text: line_of(alloc, &verdict)?,
         end,
     })
+}
+
+/// The check of a journal.
+#[derive(Clone, Copy, Debug)]
+pub struct CheckJournal;
+
+impl<Listener> Command<Listener> for CheckJournal {
+    ghost use Rattle.fs_verdict.specs.code.CheckLaws.{check_honest};
+
+    type End = Checked;
+
+    type Fault = RunFault;
+
+    ghost Asks = { λ _. Unit {0} };
+
+    ghost Makes = { λ _ input. MakesVerdict (verdict_of input) };
+
+    fn make(
+        self,
+        alloc: Global,
+        input: Vec<u8>,
+        _listener: &mut Listener,
+    ) -> Result<Made<Checked>, RunFault> {
+        check_text(alloc, input.as_slice())
+    }
+
+    ghost honest = { λ _. check_honest };
 }
 
 /// The line of the verdict on a journal in memory, as `check_journal` writes it. The journal is read without a copy of
@@ -134,16 +166,5 @@ pub fn check_journal<R: Source, W: Sink>(
     ensures devices { KeepsDevices R.failures W.failures reader.old reader.new writer.old writer.new RunFault.Read RunFault.Write result }
     ensures beginning { IsErrOf result RunFault.Write → IfSome (R.remaining reader.old) (λ input. WritesBeginningOf verdict_line (verdict_of input) (W.contents writer.old) (W.contents writer.new)) }
 {
-    let ended = transform(
-        alloc,
-        reader,
-        writer,
-        |text| -> Result<Made<Checked>, RunFault>
-            ensures { MakesVerdict text.items result }
-        { check_text(alloc, text.as_slice()) },
-    );
-    match ended {
-        Ok(checked) => Ok(checked),
-        Err(failure) => Err(between(failure)),
-    }
+    perform(alloc, reader, writer, CheckJournal, &mut ())
 }

@@ -1,25 +1,16 @@
--- What is made of a text of histories, one after the other.
-use Rattle.std.specs.Prelude.{◌≡◌, ◌+◌, ◌<◌, suc, ℕ, length, List, [], ◌∷◌, ◌++◌, map, Option, Result, Ok, Err, IfOk, IfErr, if◌then◌else◌}
+-- Histories that are read one after the other.
+use Rattle.std.specs.Prelude.{◌≡◌, ◌+◌, ◌<◌, suc, ℕ, length, List, [], ◌∷◌, ◌++◌, map, Result, Ok, Err, if◌then◌else◌}
 use Rattle.std.specs.List.{flat_map}
 use Rattle.fs_calls.specs.Starts.{Start}
 use Rattle.fs_linearize_histories.specs.declared.heard.Heard.{Heard}
-use Rattle.fs_linearize_histories.specs.Faults.{history_fault}
-use Rattle.fs_linearize.specs.Results.{IsAnswerFor, fault_in}
 use Rattle.fs_linearize.specs.declared.linearizing.Found.{Found}
-use Rattle.fs_verdict.specs.declared.shell.Made.{Made}
 use Rattle.fs_words.specs.declared.fault.ScriptFault.{ScriptFault}
-use Rattle.fs_verdict.specs.Devices.{WritesBeginning}
-use Rattle.fs_verdict.specs.InputFaults.{IsFaultOf}
 use Rattle.fs_verdict.specs.declared.fault.RunFault.{RunFault}
 use Rattle.fs_verdict.specs.declared.fault.RunFault.TheVariants.{Input, Read, Write, OutOfMemory, Full, UnderWay}
-use Rattle.fs_linearize_text.specs.Many.{is_header, pieces_of, further, found_line, many_text}
+use Rattle.fs_linearize_text.specs.Many.{is_header, pieces_of, further, found_line}
 use Rattle.fs_linearize_text.specs.Answers.{outcome_of}
 use Rattle.fs_linearize_text.specs.declared.answer.Outcome.{Outcome}
-use Rattle.fs_linearize_text.specs.declared.many.Histories.{Histories}
-
--- histories that were read, or the fault of their text
-abbrev pub Given : Type 0
-Given = Result (List (Start × List Heard)) ScriptFault
+use Rattle.fs_linearize_text.specs.Makes.{Given, IsFoundFor, AreFoundFor}
 
 -- how many lines stand before the first header line
 abbrev pub lines_before : List (List ℕ) → ℕ
@@ -41,12 +32,7 @@ IsFurther before OutOfMemory fault = fault ≡ OutOfMemory
 IsFurther before Full fault = fault ≡ Full
 IsFurther before (UnderWay c) fault = fault ≡ UnderWay c
 
--- what is found of a history is true of it, and its faults come first
-pub record IsFoundFor (limit : ℕ) (h : Start × List Heard) (f : Found) : Type 0 where
-  pub answer : IsAnswerFor h.0 h.1 limit f
-  pub fault : fault_in f ≡ history_fault h.1
-
--- the same of a history that was read
+-- what is found of a history that was read is true of it
 abbrev pub IsFoundIn : Result (Start × List Heard) ScriptFault → ℕ → Found → Type 0
 IsFoundIn (Ok h) limit f = IsFoundFor limit h f
 IsFoundIn (Err fault) limit f = ⊥
@@ -58,13 +44,6 @@ pub record AddsPiece (given : Result (Start × List Heard) ScriptFault) (limit :
   pub outcomes : new ≡ old ++ outcome_of found ∷ []
   pub text_is : longer ≡ text ++ found_line found
 
--- the same of each history
-abbrev pub AreFoundFor : ℕ → List (Start × List Heard) → List Found → Type 0
-AreFoundFor limit [] [] = Unit {0}
-AreFoundFor limit [] (f ∷ fs) = ⊥
-AreFoundFor limit (h ∷ hs) [] = ⊥
-AreFoundFor limit (h ∷ hs) (f ∷ fs) = IsFoundFor limit h f × AreFoundFor limit hs fs
-
 -- what came of histories, and a line of each
 pub record AreTold (given : Given) (limit : ℕ) (outcomes : List Outcome) (text : List ℕ) : Type 0 where
   pub histories : List (Start × List Heard)
@@ -73,21 +52,3 @@ pub record AreTold (given : Given) (limit : ℕ) (outcomes : List Outcome) (text
   pub true_of : AreFoundFor limit histories found
   pub outcomes_are : outcomes ≡ map outcome_of found
   pub text_is : text ≡ flat_map found_line found
-
--- what is found of each history that was read, as it is answered and written
-pub record IsManyOf (given : Given) (limit : ℕ) (told : Histories) (text : List ℕ) : Type 0 where
-  pub histories : List (Start × List Heard)
-  pub found : List Found
-  pub read : given ≡ Ok histories
-  pub true_of : AreFoundFor limit histories found
-  pub outcomes : told.outcomes.items ≡ map outcome_of found
-  pub text_is : text ≡ many_text found
-
--- the text of what is found of histories; or why there is none
-pub record MakesMany (given : Given) (limit : ℕ) (result : Result (Made Histories) RunFault) : Type 0 where
-  pub ok : IfOk result (λ made. IsManyOf given limit made.end made.text.items)
-  pub fault : IfErr result (IsFaultOf given)
-
--- a beginning of that text was written
-abbrev pub AreWrittenOf : Given → ℕ → Option (List ℕ) → Option (List ℕ) → Type 0
-AreWrittenOf given limit old new = (told : Histories) × (text : List ℕ) × IsManyOf given limit told text × WritesBeginning text old new

@@ -1,14 +1,9 @@
--- What is made of the text of a script, before it is written.
-use Rattle.std.specs.Prelude.{ℕ, ◌≡◌, ◌++◌, ◌∷◌, [], false, List, length, map, Result, IfOk, OnOk, IfErr, IsPermutation}
+-- What runs and lines come to, one after the other.
+use Rattle.std.specs.Prelude.{ℕ, ◌≡◌, ◌++◌, ◌∷◌, [], List, length, map, IsPermutation}
 use Rattle.fs_timeline.specs.declared.entry.Entry.{Entry}
 use Rattle.std.specs.List.{sum_by}
-use Rattle.fs_verdict.specs.declared.shell.Made.{Made}
 use Rattle.fs_script.specs.declared.script.Script.{Script}
 use Rattle.fs_sched.specs.declared.policy.Campaign.{Campaign}
-use Rattle.fs_words.specs.Headers.{is_too_long}
-use Rattle.fs_verdict.specs.declared.fault.RunFault.{RunFault}
-use Rattle.fs_verdict.specs.declared.fault.RunFault.TheVariants.{Input, Read, Write, OutOfMemory, Full, UnderWay}
-use Rattle.fs_sched_outcomes.specs.Added.{AreAdded}
 use Rattle.fs_sched_outcomes.specs.Ends.{EndValue}
 use Rattle.fs_sched_outcomes.specs.Lines.{added_line, added_text}
 use Rattle.fs_sched_outcomes.specs.Outcomes.{AreDrawn, AreTimelines, EndsOn, IsTimeline}
@@ -56,18 +51,3 @@ HasLines labels lines rows = (given : List Row) × (lines ≡ map (added_line la
 -- a text has the lines of rows in their order
 abbrev pub AreOrdered : Form → List (List ℕ) → List Row → List ℕ → Type 0
 AreOrdered form labels rows text = (ordered : List Row) × IsPermutation rows ordered × AreInOrder ordered × (text ≡ added_text form labels ordered)
-
--- the fault of a text that has another line, or out of memory
-abbrev pub IsBadLine : RunFault → Type 0
-IsBadLine (Input f) = Unit {0}
-IsBadLine Read = ⊥
-IsBadLine Write = ⊥
-IsBadLine OutOfMemory = Unit {0}
-IsBadLine Full = ⊥
-IsBadLine (UnderWay c) = ⊥
-
--- the lines that add up those of a text; or why there are none
-pub record MakesSum (form : Form) (input : List ℕ) (result : Result (Made (Unit {0})) RunFault) : Type 0 where
-  pub ok : IfOk result (λ made. AreAdded form input made.text.items)
-  pub short : OnOk result (is_too_long input ≡ false)
-  pub fault : IfErr result IsBadLine

@@ -1,22 +1,19 @@
--- What is made of the texts of a script and of a tree, before it is written.
-use Rattle.std.specs.Prelude.{◌≡◌, ℕ, Bool, true, [], List, Option, Result, Ok, Err, IfOk, OnOk, IfErr}
+-- What is read of the texts of a script and of a tree.
+use Rattle.std.specs.Prelude.{◌≡◌, ℕ, [], List, Option, Ok, Err}
 use Rattle.fs_names.specs.Limits.{node_limit}
 use Rattle.fs_names.specs.declared.limits.Limits.{Limits}
 use Rattle.fs_calls.specs.Starts.{Start}
 use Rattle.fs_nodes.specs.Stores.{graph_of}
 use Rattle.fs_core.specs.CoreValues.{CoreValue, state_of}
-use Rattle.fs_verdict.specs.declared.shell.Made.{Made}
 use Rattle.fs_machine.specs.States.{IsStart, fresh}
 use Rattle.fs_script.specs.Journals.{start_of}
 use Rattle.fs_script.specs.Script.{script_of}
 use Rattle.fs_sched.specs.Origins.{Fits}
 use Rattle.fs_sched.specs.declared.origin.Origin.TheVariants as origin
 use Rattle.fs_sched.specs.declared.policy.Policy.{Policy}
-use Rattle.fs_sched.specs.declared.running.RunEnd.{RunEnd}
-use Rattle.fs_sched.specs.declared.schedule.Schedule.{Schedule}
 use Rattle.fs_verdict.specs.declared.fault.RunFault.TheVariants as run
 use Rattle.fs_sched_start.specs.Faults.{IsTreeFault}
-use Rattle.fs_sched_start.specs.Starts.{AreGiven, ArePlanned, AreRunsAt, IsRunAt, EachIsReadAgainAt, HasTreeFault, HasTreeFaultAt, IsFaultAt, IsFaultOfRunsAt}
+use Rattle.fs_sched_start.specs.Starts.{AreGiven, ArePlanned, HasTreeFault, HasTreeFaultAt}
 use Rattle.fs_sched_start.specs.declared.given.Given.{Given}
 use Rattle.fs_sched_start.specs.declared.planned.Planned.{Planned}
 use Rattle.fs_sched_start.specs.declared.fault.StartFault.{StartFault}
@@ -35,12 +32,6 @@ abbrev pub IsNoCore : Limits → List ℕ → StartFault → Type 0
 IsNoCore limits text (Run run.OutOfMemory) = Unit {0}
 IsNoCore limits text (Run f) = ⊥
 IsNoCore limits text (Tree f) = IsTreeFault limits text f
-
--- the text of a run from a tree, and how it ended; or why there is none
-pub record MakesRunAt (schedule : Schedule) (tree : List ℕ) (input : List ℕ) (result : Result (Made RunEnd) StartFault) : Type 0 where
-  pub output : IfOk result (λ made. IsRunAt schedule tree input made.end made.text.items)
-  pub again : OnOk result (EachIsReadAgainAt schedule tree input)
-  pub fault : IfErr result (IsFaultAt schedule tree input)
 
 -- a script and where its runs begin, by two texts
 abbrev pub IsGiven : List ℕ → List ℕ → Given → Type 0
@@ -63,9 +54,3 @@ IsFaultOfPlanned tree input (Run (run.Input f)) = script_of input ≡ Err f
 IsFaultOfPlanned tree input (Run run.OutOfMemory) = Unit {0}
 IsFaultOfPlanned tree input (Run f) = ⊥
 IsFaultOfPlanned tree input (Tree f) = HasTreeFaultAt tree input (Tree f)
-
--- the lines of drawn runs, each of which is lawful; or why there are none
-pub record MakesRunsAt (tree : Option (List ℕ)) (by : Policy) (seed : ℕ) (runs : ℕ) (input : List ℕ) (result : Result (Made Bool) StartFault) : Type 0 where
-  pub ok : IfOk result (λ made. AreRunsAt tree by seed runs input made.text.items)
-  pub lawful : IfOk result (λ made. made.end ≡ true)
-  pub fault : IfErr result (IsFaultOfRunsAt tree by seed runs input)

@@ -1,31 +1,16 @@
 -- What is made of the text of an input, before it is written.
-use Rattle.std.specs.Prelude.{ℕ, ◌≡◌, Bool, true, List, Result, IfOk, IfErr}
-use Rattle.fs_verdict.specs.declared.shell.Made.{Made}
-use Rattle.fs_verdict.specs.declared.fault.RunFault.{RunFault}
+use Rattle.std.specs.Prelude.{ℕ, ◌≡◌, true, List}
 use Rattle.fs_verdict.specs.declared.fault.RunFault.TheVariants.{OutOfMemory}
 use Rattle.fs_sched_witness.specs.declared.moments.Moment.{Moment}
 use Rattle.fs_words.specs.Headers.{is_too_long}
-use Rattle.fs_sched.specs.declared.running.RunEnd.{RunEnd}
 use Rattle.fs_sched.specs.declared.schedule.Schedule.{Schedule}
-use Rattle.fs_sched.specs.Runs.{IsFaultOfRun}
 use Rattle.fs_sched.specs.code.Done.{IsStopOn}
 use Rattle.fs_sched.specs.declared.origin.Origin.{Origin}
 use Rattle.fs_script.specs.declared.script.Script.{Script}
-use Rattle.fs_trace.specs.Faults.{HasNoRoomOn, IsFaultOfSchedule}
-use Rattle.fs_trace.specs.Traces.{IsTraceOf, IsScheduleText, IsScheduleOf, IsReadBack}
+use Rattle.fs_trace.specs.Faults.{HasNoRoomOn}
+use Rattle.fs_trace.specs.Traces.{IsScheduleText}
 use Rattle.fs_trace.specs.declared.fault.ScheduleFault.{ScheduleFault}
 use Rattle.fs_trace.specs.declared.fault.ScheduleFault.TheVariants.{Run, TooManyEvents, TooLong}
-
--- the trace of a run, and how that ended; or why there is none
-pub record MakesTrace (schedule : Schedule) (every : Bool) (input : List ℕ) (result : Result (Made RunEnd) RunFault) : Type 0 where
-  pub trace : IfOk result (λ made. IsTraceOf schedule every input made.end made.text.items)
-  pub fault : IfErr result (IsFaultOfRun schedule input)
-
--- the script with the moments of a run as its words; or why there is none
-pub record MakesSchedule (schedule : Schedule) (input : List ℕ) (result : Result (Made (Unit {0})) ScheduleFault) : Type 0 where
-  pub script : IfOk result (λ made. IsScheduleOf schedule input made.text.items)
-  pub again : IfOk result (λ made. IsReadBack schedule input made.text.items)
-  pub fault : IfErr result (IsFaultOfSchedule schedule input)
 
 -- why there is no script with the moments of a run from there as its words: there is no run, or no room
 abbrev pub IsFaultOfScheduleOn : Origin → Schedule → Script → List ℕ → ScheduleFault → Type 0

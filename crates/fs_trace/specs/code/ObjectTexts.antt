@@ -1,15 +1,10 @@
 -- What is added to the objects of a trace.
-use Rattle.std.specs.Prelude.{ℕ, ◌≡◌, Bool, List, [], ◌++◌, Result, IfOk, IfErr}
+use Rattle.std.specs.Prelude.{ℕ, ◌≡◌, List, [], ◌++◌}
 use Rattle.std.specs.List.{flat_map}
-use Rattle.fs_verdict.specs.declared.shell.Made.{Made}
 use Rattle.fs_words.specs.JsonObjects.{Member, object_text}
-use Rattle.fs_sched.specs.Runs.{IsFaultOfRun}
-use Rattle.fs_sched.specs.declared.running.RunEnd.{RunEnd}
-use Rattle.fs_sched.specs.declared.schedule.Schedule.{Schedule}
 use Rattle.fs_trace_story.specs.Shown.{Saying}
-use Rattle.fs_trace.specs.Objects.{AreObjects, AreObjectsOf, IsObjectOf, thread_object}
+use Rattle.fs_trace.specs.Objects.{AreObjects, IsObjectOf, thread_object}
 use Rattle.fs_trace.specs.declared.objects.TraceObjects.{TraceObjects}
-use Rattle.fs_verdict.specs.declared.fault.RunFault.{RunFault}
 
 -- a text has an object behind it with these first members
 abbrev pub AddsObject : List Member → List ℕ → List ℕ → Type 0
@@ -30,8 +25,3 @@ IsObjectsStart names page = (page.names.now ≡ names) × (page.text.before ≡ 
 -- there is an object for each of what is told, behind what there was first
 abbrev pub HasObjects : TraceObjects → TraceObjects → List Saying → Type 0
 HasObjects first page told = (page.names.now ≡ first.names.now) × (page.text.before ≡ first.text.before) × AddsObjects first.names.now told first.text.added page.text.added
-
--- the trace of a run as objects, and how that ended; or why there is none
-pub record MakesObjects (schedule : Schedule) (every : Bool) (input : List ℕ) (result : Result (Made RunEnd) RunFault) : Type 0 where
-  pub objects : IfOk result (λ made. AreObjectsOf schedule every input made.end made.text.items)
-  pub fault : IfErr result (IsFaultOfRun schedule input)

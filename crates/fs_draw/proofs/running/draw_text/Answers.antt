@@ -1,7 +1,7 @@
 use Rattle.std.proofs.Common.{◌≡◌, ℕ, Bool, List, Result, Err, sym, subst, rules}
 use Rattle.fs_verdict.specs.declared.shell.Made.{Made}
 use Rattle.fs_draw.specs.Faults.{IsFaultOfPicture}
-use Rattle.fs_draw.specs.code.Mades.{MakesPicture}
+use Rattle.fs_draw.specs.Makes.{MakesPicture}
 use Rattle.fs_draw.specs.declared.fault.DrawFault.{DrawFault}
 use Rattle.fs_draw.proofs.running.draw_text.Goals as goal
 

@@ -1,7 +1,8 @@
 use Rattle.std.proofs.Common.{◌≡◌, Bool, true, false, sym, subst, ◌∙◌}
 use Rattle.std.specs.Prelude.{IfOk, IfErr}
 use Rattle.fs_draw.specs.Faults.{IsFaultBy}
-use Rattle.fs_draw.specs.Pictures.{IsOf, is_journal}
+use Rattle.fs_verdict.specs.Checks.{is_journal}
+use Rattle.fs_draw.specs.Pictures.{IsOf}
 use Rattle.fs_draw.proofs.running.drawing_of.Goals as goal
 
 pub returns-then-is_journal-clause-drawn : goal.returns-then-is_journal-clause-drawn

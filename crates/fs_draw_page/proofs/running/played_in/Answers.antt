@@ -1,7 +1,7 @@
 use Rattle.std.proofs.Common.{◌≡◌, Bool, true, false, None, sym, subst, ◌∙◌}
 use Rattle.std.specs.Prelude.{IfOk, IfErr}
 use Rattle.fs_draw.specs.Faults.{IsFaultBy}
-use Rattle.fs_draw.specs.Pictures.{is_journal}
+use Rattle.fs_verdict.specs.Checks.{is_journal}
 use Rattle.fs_draw_page.specs.Pages.{IsPlayedAs}
 use Rattle.fs_draw_page.proofs.running.played_in.Goals as goal
 

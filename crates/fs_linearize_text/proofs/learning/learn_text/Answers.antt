@@ -1,7 +1,6 @@
 use Rattle.std.proofs.Common.{subst, ap, ◌∙◌}
 use Rattle.fs_words.proofs.ReadLemmas.{words_in}
-use Rattle.fs_linearize_text.specs.code.Each.{Given}
-use Rattle.fs_linearize_text.specs.code.Learns.{MakesLearned}
+use Rattle.fs_linearize_text.specs.Makes.{Given, MakesLearned}
 use Rattle.fs_linearize_text.proofs.ManyLemmas.{many_by}
 use Rattle.fs_linearize_text.proofs.learning.learn_text.Goals as goal
 

@@ -3,7 +3,7 @@ use Rattle.fs_calls.specs.Starts.{Start}
 use Rattle.fs_linearize_histories.specs.declared.heard.Heard.{Heard}
 use Rattle.fs_words.specs.declared.fault.ScriptFault.{ScriptFault}
 use Rattle.fs_words.proofs.ReadLemmas.{words_in}
-use Rattle.fs_linearize_text.specs.code.Makes.{MakesFound}
+use Rattle.fs_linearize_text.specs.Makes.{MakesFound}
 use Rattle.fs_linearize_text.proofs.ReadingLemmas.{within}
 use Rattle.fs_linearize_text.proofs.linearizing.linearize_text.Goals as goal
 

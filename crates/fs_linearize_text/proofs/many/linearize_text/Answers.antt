@@ -1,6 +1,6 @@
 use Rattle.std.proofs.Common.{subst, ap, ◌∙◌}
 use Rattle.fs_words.proofs.ReadLemmas.{words_in}
-use Rattle.fs_linearize_text.specs.code.Each.{Given, MakesMany}
+use Rattle.fs_linearize_text.specs.Makes.{Given, MakesMany}
 use Rattle.fs_linearize_text.proofs.ManyLemmas.{many_by}
 use Rattle.fs_linearize_text.proofs.many.linearize_text.Goals as goal
 

@@ -2,12 +2,18 @@ use Rattle.std.proofs.Common.{sym, subst}
 use Rattle.fs_sched_start.proofs.Starting.{of_planned, of_runs}
 use Rattle.fs_sched_find.specs.Faults.{IsFaultOfSearchAt}
 use Rattle.fs_sched_find.specs.declared.fault.FindFault.{FindFault}
-use Rattle.fs_sched_find.proofs.Founds.{of_found}
+use Rattle.fs_sched_find.proofs.Founds.{again_at_root, of_found}
 use Rattle.fs_sched_find.proofs.finding.found_in.Goals as goal
 
 pub returns-in-Ok-text_of_found-clause-found : goal.returns-in-Ok-text_of_found-clause-found
 returns-in-Ok-text_of_found-clause-found g c =
     let planned = c.in-Ok.planned in
+    (planned.script, planned.campaign, c.in-Ok.ensures.planned, cc, c.in-Ok-first_seed.ensures.found, c.in-Ok-text_of_found.ensures.written)
+
+pub returns-in-Ok-text_of_found-clause-again : goal.returns-in-Ok-text_of_found-clause-again
+returns-in-Ok-text_of_found-clause-again g c root =
+    let planned = c.in-Ok.planned in
+    again_at_root c.args.tree c.args.by c.args.what.now c.args.seed c.args.runs c.args.text.now c.in-Ok-first_seed.found c.in-Ok-text_of_found.text.items root
     (planned.script, planned.campaign, c.in-Ok.ensures.planned, cc, c.in-Ok-first_seed.ensures.found, c.in-Ok-text_of_found.ensures.written)
 
 pub returns-clause-fault : goal.returns-clause-fault

@@ -11,7 +11,7 @@ returns-in-Ok c =
     let (ordered, moved, order, is) = c.in-Ok.ensures in
     let same = ap (λ ls. added_text c.args.form (map (λ label. label.items) ls) ordered) (c.deref-4.ensures.value ∙ sym c.deref-2.ensures.value) in
     record {
-      ok = added_made c.args.form c.args.text.now c.in-Ok.text.items labels lines c.in_ok-rows.rows.rows.items ordered read c.in_ok-rows.ensures.rows moved order (is ∙ same);
+      added = added_made c.args.form c.args.text.now c.in-Ok.text.items labels lines c.in_ok-rows.rows.rows.items ordered read c.in_ok-rows.ensures.rows moved order (is ∙ same);
       short = c.in_ok-lines.ensures.short;
       fault = tt;
     }

@@ -7,7 +7,7 @@ use Rattle.fs_trace_replay.specs.Replays.{IsAnswerTo}
 use Rattle.fs_trace_replay.specs.code.Seen.{calls_in}
 use Rattle.fs_trace_replay.specs.code.Tellings.{IsTreeBefore}
 use Rattle.fs_trace_replay.specs.declared.asking.Question.{Question}
-use Rattle.fs_trace_replay.specs.declared.asking.Question.TheVariants.{At, Before}
+use Rattle.fs_trace_replay.specs.declared.asking.Question.TheVariants.{At}
 use Rattle.fs_trace_replay.proofs.AnswerLemmas.{at_answer}
 use Rattle.fs_trace_replay.proofs.answering.answer_of.Goals as goal
 

@@ -1,11 +1,9 @@
-use Rattle.std.proofs.Common.{◌≡◌, ◌+◌, length, refl, sym, ap, subst, ◌∙◌, arith, Option, ℕ}
+use Rattle.std.proofs.Common.{◌≡◌, ◌+◌, length, refl, sym, subst, ◌∙◌, arith}
 use Rattle.fs_calls.specs.Starts.{Start}
 use Rattle.fs_calls.specs.Tree.{IsTree}
-use Rattle.fs_calls.specs.Outcomes.{next_start}
 use Rattle.fs_calls.proofs.TreeLaws.{stays_a_tree}
 use Rattle.fs_trace_replay.specs.Changes.{IsLastChange}
 use Rattle.fs_trace_replay.specs.code.Seen.{calls_in}
-use Rattle.fs_trace_replay.specs.code.Sights.{node_in}
 use Rattle.fs_trace_replay.proofs.ChangeLemmas.{behind, last_more, nothing_yet}
 use Rattle.fs_trace_replay.proofs.CommitLemmas.{played_more}
 use Rattle.fs_trace_replay.proofs.changes.last_change.Goals as goal

@@ -1,4 +1,3 @@
-use Rattle.std.proofs.Common.{refl}
 use Rattle.fs_trace_replay.proofs.CommitLemmas.{calls_more}
 use Rattle.fs_trace_replay.proofs.commits.commits.Goals as goal
 

@@ -1,6 +1,7 @@
 use Rattle.std.proofs.Common.{◌≡◌, Bool, true, false, sym, subst, ◌∙◌}
 use Rattle.std.specs.Prelude.{IfOk, IfErr}
-use Rattle.fs_trace_replay.specs.Replays.{IsToldBy, IsUntold, is_journal}
+use Rattle.fs_verdict.specs.Checks.{is_journal}
+use Rattle.fs_trace_replay.specs.Replays.{IsToldBy, IsUntold}
 use Rattle.fs_trace_replay.specs.code.Tellings.{value_of}
 use Rattle.fs_trace_replay.proofs.told.told_by.Goals as goal
 

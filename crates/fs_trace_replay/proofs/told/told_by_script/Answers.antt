@@ -1,4 +1,4 @@
-use Rattle.std.proofs.Common.{◌≡◌, length, refl, sym, ap, ◌∙◌, subst}
+use Rattle.std.proofs.Common.{length, refl, sym, ap, ◌∙◌, subst}
 use Rattle.fs_calls.specs.Starts.{Start}
 use Rattle.fs_calls.specs.Tree.{IsTree}
 use Rattle.fs_core.specs.CoreValues.{state_of}

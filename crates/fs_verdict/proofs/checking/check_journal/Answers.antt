@@ -1,45 +1,36 @@
-use Rattle.std.specs.Io.KnownBytes.{Appends}
-use Rattle.std.proofs.Common.{refl, subst, Err, ap, sym, true, [], ◌≡◌, ◌≢◌, ◌∙◌}
-use Rattle.fs_verdict.specs.declared.failure.Failure.TheVariants as failure
+use Rattle.std.proofs.Common.{◌≡◌, Err}
 use Rattle.fs_verdict.specs.Checks.{verdict_of}
-use Rattle.fs_verdict.specs.InputFaults.{IsFaultOf}
-use Rattle.fs_verdict.specs.declared.checking.Checked.{Checked}
 use Rattle.fs_verdict.specs.declared.fault.RunFault.{RunFault}
-use Rattle.fs_verdict.specs.declared.fault.RunFault.TheVariants.{Input, Write}
-use Rattle.fs_verdict.proofs.Unmade.{unmade, unwritten}
-use Rattle.fs_verdict.proofs.CheckLemmas.{verdict_short, known_verdict, known_beginning}
+use Rattle.fs_verdict.specs.declared.fault.RunFault.TheVariants.{Input, Full, UnderWay}
+use Rattle.fs_verdict.proofs.Verdicts as lemmas
+use Rattle.fs_verdict.proofs.Performed.{apart_itself, of_known, unmade, keeps_devices, beginning}
 use Rattle.fs_verdict.proofs.checking.check_journal.Goals as goal
 
-abbrev gives : RunFault → RunFault → Type 0
-gives fault x = x ≡ fault
+abbrev run : RunFault → RunFault
+run fault = fault
 
-pub returns-in-Ok-clause-verdict : goal.returns-in-Ok-clause-verdict
-returns-in-Ok-clause-verdict g c =
-    let told = c.in-Ok.ensures.made in
-    let judged = told.4.1.ok in
-    (judged.0, known_verdict _ _ _ _ refl told.2 judged.1, ap (λ (a : Checked). a.lawful) told.5 ∙ judged.2.end.lawful, subst (Appends _ _) judged.2.text told.6)
+pub returns-clause-verdict : goal.returns-clause-verdict
+returns-clause-verdict g c = lemmas.checked _ _ _ _ c.perform.ensures.transforms.ok
 
-pub returns-in-Ok-clause-quiet : goal.returns-in-Ok-clause-quiet
-returns-in-Ok-clause-quiet g c lawful =
-    let told = c.in-Ok.ensures.made in
-    let judged = told.4.1.ok in
-    let alone : (a b : Checked) → a ≡ b → (b.lawful ≡ true → b.reason.items ≡ []) → a.lawful ≡ true → a.reason.items ≡ [] =
-    λ a b same quiet is. ap (λ (x : Checked). x.reason.items) same ∙ quiet (sym (ap (λ (x : Checked). x.lawful) same) ∙ is) in
-    alone _ _ told.5 judged.2.end.quiet lawful
+pub returns-clause-quiet : goal.returns-clause-quiet
+returns-clause-quiet g c = lemmas.quiet _ _ _ _ c.perform.ensures.transforms.ok
 
-pub returns-in-Ok-clause-end : goal.returns-in-Ok-clause-end
-returns-in-Ok-clause-end g c = let told = c.in-Ok.ensures.made in told.3 (verdict_short _ _ _ refl told.4.1.ok.1)
+pub returns-clause-end : goal.returns-clause-end
+returns-clause-end g c = c.perform.ensures.transforms.end
 
-pub returns-in-Err-clause-input : goal.returns-in-Err-clause-input
-returns-in-Err-clause-input g c f e =
-    let told = c.in-Err.ensures.unmade (Input f) (ap Err (unmade gives _ _ (Input f) c.between.ensures (cc) (λ z. cc) (λ z. cc) (λ z. cc))) in
-    known_verdict _ _ _ _ refl told.1 told.2.1.fault
+pub returns-clause-input : goal.returns-clause-input
+returns-clause-input g c f e =
+    let told = unmade run _ _ _ _ _ _ _ _ _ _ c.perform.ensures.transforms (Input f) e (λ z. cc) (λ z. cc) (λ z. cc) in
+    of_known (λ given. verdict_of given ≡ Err f) _ _ told.read told.makes_it.fault
 
-pub returns-in-Err-clause-beginning : goal.returns-in-Err-clause-beginning
-returns-in-Err-clause-beginning g c e =
-    let never : (f : RunFault) → c.in-Err.failure ≡ failure.Unmade f → f ≢ Write = λ f same wrong.
-    let told = c.in-Err.ensures.unmade f (ap Err same) in
-    subst (IsFaultOf (verdict_of told.0.items)) wrong told.2.1.fault in
-    let told = c.in-Err.ensures.beginning (ap Err (unwritten gives _ _ Write c.between.ensures (cc) (λ z. cc) (λ z. cc) never)) in
-    let judged = told.3.1.ok in
-    known_beginning _ _ _ _ _ _ _ refl told.2 judged.1 judged.2.text told.4
+pub returns-clause-full : goal.returns-clause-full
+returns-clause-full g c e = (unmade run _ _ _ _ _ _ _ _ _ _ c.perform.ensures.transforms Full e (λ z. cc) (λ z. cc) (λ z. cc)).makes_it.fault
+
+pub returns-clause-under_way : goal.returns-clause-under_way
+returns-clause-under_way g c call e = (unmade run _ _ _ _ _ _ _ _ _ _ c.perform.ensures.transforms (UnderWay call) e (λ z. cc) (λ z. cc) (λ z. cc)).makes_it.fault
+
+pub returns-clause-devices : goal.returns-clause-devices
+returns-clause-devices g c = keeps_devices run apart_itself _ _ _ _ _ _ _ _ _ _ c.perform.ensures.transforms
+
+pub returns-clause-beginning : goal.returns-clause-beginning
+returns-clause-beginning g c e = lemmas.begun _ _ _ (beginning run apart_itself _ _ _ _ _ _ _ _ _ _ c.perform.ensures.transforms e)
