@@ -1607,7 +1607,7 @@ class Guarantees(Sentences):
         self.each(((row[0], spans(row[0])[0], spans(row[2])) for row in rows), self.look_at_crate)
 
     def look_at_crate(self, crate: str, words: typing.Any) -> None:
-        of = {}
+        of = self.records(crate)
         for function in promises.public(CRATES / crate):
             of[function.name] = of[f"{pathlib.Path(function.file).stem}::{function.name}"] = [
                 clause.name for clause in function.ensures
@@ -1624,6 +1624,13 @@ class Guarantees(Sentences):
                 [clause for clause in clauses or ["only"] if clause not in of.get(function, ())],
                 [],
             )
+
+    @staticmethod
+    def records(crate: str) -> dict[str, list[str]]:
+        """The records of a crate's definitions, each with its fields: that of a command says what it makes."""
+        texts = (path.read_text() for path in (CRATES / crate / "specs").glob("*.antt"))
+        blocks = (block.splitlines() for text in texts for block in re.split(r"^(?=pub record )", text, flags=re.M)[1:])
+        return {words[0].split()[2]: re.findall(r"^  pub (\w+) :", "\n".join(words[1:]), re.M) for words in blocks}
 
     def test_wrong_bodies(self) -> None:
         """Each has an edit in its crate, a function of a check that is called, or a test in Python, behind the name of the crate or file."""
